@@ -1,5 +1,5 @@
 use std::alloc::Global;
-use hir::{BasicBlock, HirFunction, Identifier, Instruction, Place};
+use hir::{BasicBlock, Counts, HirFunction, Identifier, Instruction, Place, Store};
 
 // The seven tables of one screen, every row used.
 #[derive(Drop)]
@@ -23,6 +23,20 @@ impl Screen {
             numbers: Vec::new(heap),
             blocks: Vec::new(heap),
             functions: Vec::new(heap),
+        }
+    }
+
+    // The tables as a store for one call. The reader sees to it that the counts fit.
+    pub fn lend(&mut self, counts: Counts) -> Store<'_> {
+        Store {
+            counts,
+            text: self.text.as_mut_slice(),
+            identifiers: self.identifiers.as_mut_slice(),
+            places: self.places.as_mut_slice(),
+            instructions: self.instructions.as_mut_slice(),
+            numbers: self.numbers.as_mut_slice(),
+            blocks: self.blocks.as_mut_slice(),
+            functions: self.functions.as_mut_slice(),
         }
     }
 }

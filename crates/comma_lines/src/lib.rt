@@ -1,4 +1,4 @@
-//! Screens as text: the comma lines that they are read from, the canonical dump, and a form for people.
+//! Screens from comma lines: one line for each row of a table, its fields parted by commas.
 
 mod fault;
 mod fields;
