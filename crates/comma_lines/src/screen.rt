@@ -1,3 +1,6 @@
+ghost use mathlib.Core.Path.{_≡_};
+ghost use Rattle.std.specs.Slices.{found};
+ghost use Rattle.comma_lines.specs.Lent.{all-used, Lent};
 use std::alloc::Global;
 use hir::{BasicBlock, Counts, HirFunction, Identifier, Instruction, Place, Store};
 
@@ -26,8 +29,27 @@ impl Screen {
         }
     }
 
-    // The tables as a store for one call. The reader sees to it that the counts fit.
-    pub fn lend(&mut self, counts: Counts) -> Store<'_> {
+    // All rows used, and no tag taken; none if a table has more rows than a count can hold.
+    pub fn counts(&self) -> Option<Counts>
+        ensures { λ r. ⌜ found r (λ c. c ≡ all-used (now (self .entry))) ⌝ }
+    {
+        Some(Counts {
+            text: u32::try_from(self.text.len()).ok()?,
+            identifiers: u32::try_from(self.identifiers.len()).ok()?,
+            places: u32::try_from(self.places.len()).ok()?,
+            instructions: u32::try_from(self.instructions.len()).ok()?,
+            numbers: u32::try_from(self.numbers.len()).ok()?,
+            blocks: u32::try_from(self.blocks.len()).ok()?,
+            functions: u32::try_from(self.functions.len()).ok()?,
+            tag_counter: 0,
+            tag_mark: 0,
+        })
+    }
+
+    // The tables as a store for one call.
+    pub fn lend(&mut self, counts: Counts) -> Store<'_>
+        ensures { λ r. ⌜ Lent (now (self .entry)) counts r ⌝ }
+    {
         Store {
             counts,
             text: self.text.as_mut_slice(),
