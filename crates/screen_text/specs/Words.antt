@@ -20,3 +20,9 @@ terminal n = getD terminals n unknown
 
 abbrev pub function-type : ℕ → List ℕ
 function-type n = getD (codes "Component" ∷ codes "Hook" ∷ codes "Other" ∷ []) n unknown
+
+abbrev pub return-variant : ℕ → List ℕ
+return-variant n = getD (codes "Void" ∷ codes "Implicit" ∷ codes "Explicit" ∷ []) n unknown
+
+abbrev pub instruction-kind : ℕ → List ℕ
+instruction-kind n = getD (codes "Const" ∷ codes "Let" ∷ codes "Reassign" ∷ codes "Catch" ∷ codes "HoistedConst" ∷ codes "HoistedLet" ∷ codes "HoistedFunction" ∷ codes "Function" ∷ []) n unknown

@@ -3,7 +3,7 @@ use std::io::Write;
 use super::dumping::{places_of, put_name};
 use super::print_error::PrintError;
 use super::print_error::PrintErrorFromIo;
-use super::words::{block_kind_name, function_type_name, kind_name, terminal_name};
+use super::words::{block_kind_name, function_type_name, instruction_kind_name, kind_name, return_variant_name, terminal_name};
 use hir::{BasicBlock, FunctionId, HirFunction, IdentifierId, IdentifierName, Instruction, InstructionId, Place, Run, Store};
 
 // The store as a compiler engineer reads it: a head line for each function, its blocks, their rows and terminals.
@@ -66,13 +66,7 @@ fn show_block(out: &mut Vec<u8>, store: &Store<'_>, number: usize, block: &Basic
         };
         show_row(out, store, row)?;
     }
-    write!(out, "    {}", terminal_name(block.terminal))?;
-    if block.detail > 0 {
-        write!(out, " #{}", block.detail)?;
-    }
-    show_roles(out, store, places_of(store, block.places)?, 0, 5)?;
-    writeln!(out)?;
-    Ok(())
+    show_terminal(out, store, block)
 }
 
 fn show_predecessors(out: &mut Vec<u8>, store: &Store<'_>, run: Run) -> Result<(), PrintError> {
@@ -85,6 +79,18 @@ fn show_predecessors(out: &mut Vec<u8>, store: &Store<'_>, run: Run) -> Result<(
     for number in numbers {
         write!(out, " bb{number}")?;
     }
+    Ok(())
+}
+
+fn show_terminal(out: &mut Vec<u8>, store: &Store<'_>, block: &BasicBlock) -> Result<(), PrintError> {
+    write!(out, "    {}", terminal_name(block.terminal))?;
+    if block.terminal == 3 {
+        write!(out, " {}", return_variant_name(block.detail))?;
+    } else if block.detail > 0 {
+        write!(out, " #{}", block.detail)?;
+    }
+    show_roles(out, store, places_of(store, block.places)?, 0, 5)?;
+    writeln!(out)?;
     Ok(())
 }
 
@@ -107,9 +113,7 @@ fn show_value(out: &mut Vec<u8>, store: &Store<'_>, row: &Instruction) -> Result
         write!(out, " ")?;
         put_name(out, store, row.name)?;
     }
-    if row.detail > 0 {
-        write!(out, " #{}", row.detail)?;
-    }
+    show_detail(out, row)?;
     if row.kind == 18 || row.kind == 31 {
         write!(out, " function {}", row.function.0)?;
     }
@@ -118,6 +122,19 @@ fn show_value(out: &mut Vec<u8>, store: &Store<'_>, row: &Instruction) -> Result
     if has_role(places, 5) {
         write!(out, " ->")?;
         show_roles(out, store, places, 5, 5)?;
+    }
+    Ok(())
+}
+
+// What the detail says, where it is known; else its number, unless that is 0.
+fn show_detail(out: &mut Vec<u8>, row: &Instruction) -> Result<(), PrintError> {
+    if row.kind == 7 {
+        let pattern = if row.detail >= 8 { "object" } else { "array" };
+        write!(out, " {} {pattern}", instruction_kind_name(row.detail % 8))?;
+    } else if row.kind == 29 && row.detail == 4 {
+        write!(out, " (ModuleLocal)")?;
+    } else if row.detail > 0 {
+        write!(out, " #{}", row.detail)?;
     }
     Ok(())
 }

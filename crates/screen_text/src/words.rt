@@ -1,5 +1,5 @@
 ghost use mathlib.Core.Path.{_≡_};
-ghost use Rattle.screen_text.specs.Words.{block-kind, function-type, terminal};
+ghost use Rattle.screen_text.specs.Words.{block-kind, function-type, instruction-kind, return-variant, terminal};
 
 // The names that people know the numbers of the tables by. A number out of its range is shown as a question mark.
 
@@ -105,6 +105,35 @@ pub fn function_type_name(number: u8) -> &'static str
         0 => "Component",
         1 => "Hook",
         2 => "Other",
+        _ => "?",
+    }
+}
+
+// How a Return came about.
+pub fn return_variant_name(number: u32) -> &'static str
+    ensures { λ r. ⌜ now r ≡ return-variant number ⌝ }
+{
+    match number {
+        0 => "Void",
+        1 => "Implicit",
+        2 => "Explicit",
+        _ => "?",
+    }
+}
+
+// How a variable is bound.
+pub fn instruction_kind_name(number: u64) -> &'static str
+    ensures { λ r. ⌜ now r ≡ instruction-kind number ⌝ }
+{
+    match number {
+        0 => "Const",
+        1 => "Let",
+        2 => "Reassign",
+        3 => "Catch",
+        4 => "HoistedConst",
+        5 => "HoistedLet",
+        6 => "HoistedFunction",
+        7 => "Function",
         _ => "?",
     }
 }
