@@ -30,7 +30,10 @@ pub impl fmt::Display for Fault as FaultDisplay {
         write!(f, "line {line}: ")?;
         match self.wrong {
             Wrong::Letter => write!(f, "does not begin with one of the letters I, P, R, L, B, F"),
-            Wrong::Order => write!(f, "stands too late: the order of the lines is I, P, R, L, B, F"),
+            Wrong::Order => write!(
+                f,
+                "stands too late: the order of the lines is I, P, R, L, B, F"
+            ),
             Wrong::Missing => write!(f, "ends before {field}"),
             Wrong::Extra => write!(f, "has more fields than it should"),
             Wrong::Number { min, max } => write!(f, "{field} is not a number from {min} to {max}"),

@@ -1,9 +1,15 @@
 ghost use Prim.Native.Nat.{_≤_};
 ghost use Rattle.std.specs.Vec.{made};
-use super::fault::{Fault, ReadError, Wrong};
+use super::fault::Fault;
+use super::fault::ReadError;
 use super::fault::ReadErrorFromAlloc;
 use super::fault::ReadErrorFromFault;
-use hir::{IdentifierId, IdentifierName, Name, Place, Run};
+use super::fault::Wrong;
+use hir::IdentifierId;
+use hir::IdentifierName;
+use hir::Name;
+use hir::Place;
+use hir::Run;
 
 // The fields of one line after its letter, of which `next` is the one to be read.
 #[derive(Drop)]
@@ -15,7 +21,11 @@ pub struct Fields<'v, 'a> {
 
 impl<'v, 'a> Fields<'v, 'a> {
     pub fn fault(&self, field: &'static str, wrong: Wrong) -> Fault {
-        Fault { line: self.line, field, wrong }
+        Fault {
+            line: self.line,
+            field,
+            wrong,
+        }
     }
 
     // What stands before the first comma.
@@ -75,7 +85,11 @@ impl<'v, 'a> Fields<'v, 'a> {
     }
 
     // A name's bytes are added to the text; an empty field is no name.
-    pub fn name(&mut self, field: &'static str, text: &mut Vec<u8>) -> Result<Option<Name>, ReadError> {
+    pub fn name(
+        &mut self,
+        field: &'static str,
+        text: &mut Vec<u8>,
+    ) -> Result<Option<Name>, ReadError> {
         let part = self.take(field)?;
         if part.is_empty() {
             return Ok(None);
@@ -108,7 +122,14 @@ impl<'v, 'a> Fields<'v, 'a> {
         let effect = self.small("the place's effect", 7)?;
         let reactive = self.bit("the place's reactive bit")?;
         let span = self.word("the place's span")?;
-        Ok(Place { role, name, identifier, effect, reactive, span })
+        Ok(Place {
+            role,
+            name,
+            identifier,
+            effect,
+            reactive,
+            span,
+        })
     }
 
     // Every field of the line has been read.

@@ -5,6 +5,10 @@ mod fields;
 mod lines;
 mod screen;
 
-pub use fault::{Fault, FaultDisplay, ReadError, ReadErrorDisplay, Wrong};
+pub use fault::Fault;
+pub use fault::FaultDisplay;
+pub use fault::ReadError;
+pub use fault::ReadErrorDisplay;
+pub use fault::Wrong;
 pub use lines::read;
 pub use screen::Screen;

@@ -1,12 +1,18 @@
-use std::alloc::AllocError;
-use std::alloc::Global;
-use super::fault::{Fault, ReadError, Wrong};
+use super::fault::Fault;
+use super::fault::ReadError;
 use super::fault::ReadErrorFromAlloc;
 use super::fault::ReadErrorFromFault;
 use super::fault::ReadErrorFromRefused;
+use super::fault::Wrong;
 use super::fields::Fields;
 use super::screen::Screen;
-use hir::{BasicBlock, FunctionId, HirFunction, Identifier, Instruction};
+use hir::BasicBlock;
+use hir::FunctionId;
+use hir::HirFunction;
+use hir::Identifier;
+use hir::Instruction;
+use std::alloc::AllocError;
+use std::alloc::Global;
 
 // A screen from its comma lines: one line for each row, table by table.
 pub fn read(heap: Global, input: &str) -> Result<Screen, ReadError> {
@@ -39,9 +45,19 @@ fn table_of(letter: &str) -> Option<u8> {
 
 impl Screen {
     // Adds the row of one line; answers its table, before which no later line may stand.
-    fn read_line(&mut self, heap: Global, number: usize, line: &str, last: u8) -> Result<u8, ReadError> {
+    fn read_line(
+        &mut self,
+        heap: Global,
+        number: usize,
+        line: &str,
+        last: u8,
+    ) -> Result<u8, ReadError> {
         let parts = split_fields(heap, line)?;
-        let mut fields = Fields { parts: parts.as_slice(), next: 1, line: number };
+        let mut fields = Fields {
+            parts: parts.as_slice(),
+            next: 1,
+            line: number,
+        };
         let Some(table) = table_of(fields.letter()) else {
             return Err(ReadError::Line(fields.fault("", Wrong::Letter)));
         };
@@ -85,7 +101,20 @@ impl Screen {
         let opening = fields.word("the opening number")?;
         let closing = fields.word("the closing number")?;
         let effects = fields.word("the effects number")?;
-        self.instructions.push(Instruction { order, kind, result, name, detail, function, places, span, opening, closing, effects })?;
+        self.instructions
+            .push(Instruction {
+                order,
+                kind,
+                result,
+                name,
+                detail,
+                function,
+                places,
+                span,
+                opening,
+                closing,
+                effects,
+            })?;
         Ok(())
     }
 
@@ -96,7 +125,15 @@ impl Screen {
         let places = fields.run("the first terminal place", "the count of terminal places")?;
         let instructions = fields.run("the first list number", "the count of rows")?;
         let preds = fields.run("the first predecessor", "the count of predecessors")?;
-        self.blocks.push(BasicBlock { kind, terminal, detail, places, instructions, preds })?;
+        self.blocks
+            .push(BasicBlock {
+                kind,
+                terminal,
+                detail,
+                places,
+                instructions,
+                preds,
+            })?;
         Ok(())
     }
 
@@ -108,7 +145,16 @@ impl Screen {
         let returns = fields.place(&mut self.text)?;
         let tag = fields.name("the tag", &mut self.text)?;
         let appended = fields.bit("the appended bit")?;
-        self.functions.push(HirFunction { fn_type, blocks, params, context, returns, tag, appended })?;
+        self.functions
+            .push(HirFunction {
+                fn_type,
+                blocks,
+                params,
+                context,
+                returns,
+                tag,
+                appended,
+            })?;
         Ok(())
     }
 }

@@ -1,8 +1,14 @@
 ghost use mathlib.Core.Path.{_≡_};
 ghost use Rattle.std.specs.Slices.{found};
 ghost use Rattle.comma_lines.specs.Lent.{all-used, Lent};
+use hir::BasicBlock;
+use hir::Counts;
+use hir::HirFunction;
+use hir::Identifier;
+use hir::Instruction;
+use hir::Place;
+use hir::Store;
 use std::alloc::Global;
-use hir::{BasicBlock, Counts, HirFunction, Identifier, Instruction, Place, Store};
 
 // The seven tables of one screen, every row used.
 #[derive(Drop)]

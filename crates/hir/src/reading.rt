@@ -1,5 +1,15 @@
 ghost use Rattle.hir.specs.Used.{Reads-row, Reads-run};
-use super::rows::{BasicBlock, FunctionId, HirFunction, Identifier, IdentifierId, Instruction, InstructionId, Name, Place, Run, Store};
+use super::rows::BasicBlock;
+use super::rows::FunctionId;
+use super::rows::HirFunction;
+use super::rows::Identifier;
+use super::rows::IdentifierId;
+use super::rows::Instruction;
+use super::rows::InstructionId;
+use super::rows::Name;
+use super::rows::Place;
+use super::rows::Run;
+use super::rows::Store;
 
 // The rows of a run, unless it leaves the used rows.
 pub fn used_run<T>(table: &[T], used: u32, run: Run) -> Option<&[T]>
@@ -28,7 +38,14 @@ impl Store<'_> {
     pub fn bytes_of(&self, name: Name) -> Option<&[u8]>
         ensures { λ r. ⌜ Reads-run (now (now (self .entry) .text)) (now (self .entry) .counts .text) (record { first = name .start; count = name .len }) r ⌝ }
     {
-        used_run(self.text, self.counts.text, Run { first: name.start, count: name.len })
+        used_run(
+            self.text,
+            self.counts.text,
+            Run {
+                first: name.start,
+                count: name.len,
+            },
+        )
     }
 
     pub fn places_of(&self, run: Run) -> Option<&[Place]>

@@ -1,14 +1,16 @@
 //! Reads screens parted by lines of two dashes, and writes the dump of each, or why it is not read. What is expected
 //! of good screens was written by a program that holds the original pass; of bad ones, by hand.
 
+use comma_lines::ReadErrorDisplay;
+use comma_lines::read;
+use screen_text::PrintErrorDisplay;
+use screen_text::dump;
 use std::alloc::AllocError;
 use std::alloc::Global;
 use std::error::AnyError;
 use std::fmt;
 use std::io;
 use std::io::Write;
-use comma_lines::{read, ReadErrorDisplay};
-use screen_text::{dump, PrintErrorDisplay};
 
 fn main(rt: LibcRuntime) -> Result<(), AnyError> {
     rt.report(run(&rt))

@@ -1,8 +1,19 @@
-use std::alloc::Global;
-use std::io::Write;
 use super::print_error::PrintError;
 use super::print_error::PrintErrorFromIo;
-use hir::{BasicBlock, FunctionId, HirFunction, Identifier, IdentifierId, IdentifierName, Instruction, InstructionId, Name, Place, Run, Store};
+use hir::BasicBlock;
+use hir::FunctionId;
+use hir::HirFunction;
+use hir::Identifier;
+use hir::IdentifierId;
+use hir::IdentifierName;
+use hir::Instruction;
+use hir::InstructionId;
+use hir::Name;
+use hir::Place;
+use hir::Run;
+use hir::Store;
+use std::alloc::Global;
+use std::io::Write;
 
 // The canonical dump: every function with its blocks and their rows, then every identifier. It shows nothing of
 // which spare row took what, so that two passes over one screen can be compared byte by byte.
@@ -10,20 +21,31 @@ pub fn dump(heap: Global, store: &Store<'_>) -> Result<Vec<u8>, PrintError> {
     let mut out = Vec::new(heap);
     for n in 0..store.counts.functions {
         let Some(function) = store.function(FunctionId(n)) else {
-            return Err(PrintError::unused("function", n));
+            return Err(PrintError::Unused {
+                what: "function",
+                number: n,
+            });
         };
         dump_function(&mut out, store, n, function)?;
     }
     for n in 0..store.counts.identifiers {
         let Some(identifier) = store.identifier(IdentifierId(n)) else {
-            return Err(PrintError::unused("identifier", n));
+            return Err(PrintError::Unused {
+                what: "identifier",
+                number: n,
+            });
         };
         dump_identifier(&mut out, store, n, identifier)?;
     }
     Ok(out)
 }
 
-fn dump_function(out: &mut Vec<u8>, store: &Store<'_>, n: u32, function: &HirFunction) -> Result<(), PrintError> {
+fn dump_function(
+    out: &mut Vec<u8>,
+    store: &Store<'_>,
+    n: u32,
+    function: &HirFunction,
+) -> Result<(), PrintError> {
     write!(out, "function {n} type={} tag=", function.fn_type)?;
     put_name(out, store, function.tag)?;
     write!(out, " appended={} params=", function.appended as u8)?;
@@ -34,7 +56,10 @@ fn dump_function(out: &mut Vec<u8>, store: &Store<'_>, n: u32, function: &HirFun
     put_place(out, store, &function.returns)?;
     writeln!(out)?;
     let Some(blocks) = store.blocks_of(function.blocks) else {
-        return Err(PrintError::unused("a block of function", n));
+        return Err(PrintError::Unused {
+            what: "a block of function",
+            number: n,
+        });
     };
     for (k, block) in blocks.iter().enumerate() {
         dump_block(out, store, k, block)?;
@@ -42,18 +67,33 @@ fn dump_function(out: &mut Vec<u8>, store: &Store<'_>, n: u32, function: &HirFun
     Ok(())
 }
 
-fn dump_block(out: &mut Vec<u8>, store: &Store<'_>, k: usize, block: &BasicBlock) -> Result<(), PrintError> {
-    write!(out, "block {k} kind={} terminal={} detail={} tplaces=", block.kind, block.terminal, block.detail)?;
+fn dump_block(
+    out: &mut Vec<u8>,
+    store: &Store<'_>,
+    k: usize,
+    block: &BasicBlock,
+) -> Result<(), PrintError> {
+    write!(
+        out,
+        "block {k} kind={} terminal={} detail={} tplaces=",
+        block.kind, block.terminal, block.detail
+    )?;
     put_places(out, store, block.places)?;
     write!(out, " preds=[")?;
     put_numbers(out, store, block.preds)?;
     writeln!(out, "]")?;
     let Some(list) = store.numbers_of(block.instructions) else {
-        return Err(PrintError::unused("list number", block.instructions.first));
+        return Err(PrintError::Unused {
+            what: "list number",
+            number: block.instructions.first,
+        });
     };
     for number in list {
         let Some(row) = store.instruction(InstructionId(*number)) else {
-            return Err(PrintError::unused("row", *number));
+            return Err(PrintError::Unused {
+                what: "row",
+                number: *number,
+            });
         };
         dump_row(out, store, row)?;
     }
@@ -65,13 +105,26 @@ fn dump_row(out: &mut Vec<u8>, store: &Store<'_>, row: &Instruction) -> Result<(
     put_place(out, store, &row.result)?;
     write!(out, " name=")?;
     put_name(out, store, row.name)?;
-    write!(out, " detail={} function={} places=[", row.detail, row.function.0)?;
+    write!(
+        out,
+        " detail={} function={} places=[",
+        row.detail, row.function.0
+    )?;
     put_read_first(out, store, row.places)?;
-    writeln!(out, "] span={} opening={} closing={} effects={}", row.span, row.opening, row.closing, row.effects)?;
+    writeln!(
+        out,
+        "] span={} opening={} closing={} effects={}",
+        row.span, row.opening, row.closing, row.effects
+    )?;
     Ok(())
 }
 
-fn dump_identifier(out: &mut Vec<u8>, store: &Store<'_>, n: u32, identifier: &Identifier) -> Result<(), PrintError> {
+fn dump_identifier(
+    out: &mut Vec<u8>,
+    store: &Store<'_>,
+    n: u32,
+    identifier: &Identifier,
+) -> Result<(), PrintError> {
     let (kind, name) = match identifier.name {
         IdentifierName::Absent => (0, None),
         IdentifierName::Named(name) => (1, Some(name)),
@@ -84,12 +137,19 @@ fn dump_identifier(out: &mut Vec<u8>, store: &Store<'_>, n: u32, identifier: &Id
 }
 
 // The bytes of a name; nothing where there is none.
-pub fn put_name(out: &mut Vec<u8>, store: &Store<'_>, name: Option<Name>) -> Result<(), PrintError> {
+pub fn put_name(
+    out: &mut Vec<u8>,
+    store: &Store<'_>,
+    name: Option<Name>,
+) -> Result<(), PrintError> {
     let Some(name) = name else {
         return Ok(());
     };
     let Some(bytes) = store.bytes_of(name) else {
-        return Err(PrintError::unused("text byte", name.start));
+        return Err(PrintError::Unused {
+            what: "text byte",
+            number: name.start,
+        });
     };
     out.write_all(bytes)?;
     Ok(())
@@ -98,7 +158,11 @@ pub fn put_name(out: &mut Vec<u8>, store: &Store<'_>, name: Option<Name>) -> Res
 fn put_place(out: &mut Vec<u8>, store: &Store<'_>, place: &Place) -> Result<(), PrintError> {
     write!(out, "{}:", place.role)?;
     put_name(out, store, place.name)?;
-    write!(out, ":{}:{}:{}:{}", place.identifier.0, place.effect, place.reactive as u8, place.span)?;
+    write!(
+        out,
+        ":{}:{}:{}:{}",
+        place.identifier.0, place.effect, place.reactive as u8, place.span
+    )?;
     Ok(())
 }
 
@@ -123,7 +187,13 @@ fn put_read_first(out: &mut Vec<u8>, store: &Store<'_>, run: Run) -> Result<(), 
 }
 
 // The places that are read, or those that are not; answers whether any place has been put so far.
-fn put_where(out: &mut Vec<u8>, store: &Store<'_>, places: &[Place], read: bool, mut any: bool) -> Result<bool, PrintError> {
+fn put_where(
+    out: &mut Vec<u8>,
+    store: &Store<'_>,
+    places: &[Place],
+    read: bool,
+    mut any: bool,
+) -> Result<bool, PrintError> {
     for place in places {
         if (place.role <= 4) == read {
             if any {
@@ -139,13 +209,19 @@ fn put_where(out: &mut Vec<u8>, store: &Store<'_>, places: &[Place], read: bool,
 pub fn places_of<'s>(store: &'s Store<'_>, run: Run) -> Result<&'s [Place], PrintError> {
     match store.places_of(run) {
         Some(places) => Ok(places),
-        None => Err(PrintError::unused("place", run.first)),
+        None => Err(PrintError::Unused {
+            what: "place",
+            number: run.first,
+        }),
     }
 }
 
 fn put_numbers(out: &mut Vec<u8>, store: &Store<'_>, run: Run) -> Result<(), PrintError> {
     let Some(numbers) = store.numbers_of(run) else {
-        return Err(PrintError::unused("list number", run.first));
+        return Err(PrintError::Unused {
+            what: "list number",
+            number: run.first,
+        });
     };
     for (k, number) in numbers.iter().enumerate() {
         if k > 0 {

@@ -6,5 +6,6 @@ mod showing;
 mod words;
 
 pub use dumping::dump;
-pub use print_error::{PrintError, PrintErrorDisplay};
+pub use print_error::PrintError;
+pub use print_error::PrintErrorDisplay;
 pub use showing::show;

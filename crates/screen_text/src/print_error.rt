@@ -8,12 +8,6 @@ pub enum PrintError {
     Unused { what: &'static str, number: u32 },
 }
 
-impl PrintError {
-    pub fn unused(what: &'static str, number: u32) -> PrintError {
-        PrintError::Unused { what, number }
-    }
-}
-
 pub impl fmt::Display for PrintError as PrintErrorDisplay {
     fn fmt<W: fmt::Write>(&self, f: &mut fmt::Formatter<W>) -> fmt::Result {
         match self {

@@ -1,17 +1,35 @@
-use std::alloc::Global;
-use std::io::Write;
-use super::dumping::{places_of, put_name};
+use super::dumping::places_of;
+use super::dumping::put_name;
 use super::print_error::PrintError;
 use super::print_error::PrintErrorFromIo;
-use super::words::{block_kind_name, function_type_name, instruction_kind_name, kind_name, return_variant_name, terminal_name};
-use hir::{BasicBlock, FunctionId, HirFunction, IdentifierId, IdentifierName, Instruction, InstructionId, Place, Run, Store};
+use super::words::block_kind_name;
+use super::words::function_type_name;
+use super::words::instruction_kind_name;
+use super::words::kind_name;
+use super::words::return_variant_name;
+use super::words::terminal_name;
+use hir::BasicBlock;
+use hir::FunctionId;
+use hir::HirFunction;
+use hir::IdentifierId;
+use hir::IdentifierName;
+use hir::Instruction;
+use hir::InstructionId;
+use hir::Place;
+use hir::Run;
+use hir::Store;
+use std::alloc::Global;
+use std::io::Write;
 
 // The store as a compiler engineer reads it: a head line for each function, its blocks, their rows and terminals.
 pub fn show(heap: Global, store: &Store<'_>) -> Result<Vec<u8>, PrintError> {
     let mut out = Vec::new(heap);
     for n in 0..store.counts.functions {
         let Some(function) = store.function(FunctionId(n)) else {
-            return Err(PrintError::unused("function", n));
+            return Err(PrintError::Unused {
+                what: "function",
+                number: n,
+            });
         };
         if n > 0 {
             writeln!(out)?;
@@ -21,8 +39,17 @@ pub fn show(heap: Global, store: &Store<'_>) -> Result<Vec<u8>, PrintError> {
     Ok(out)
 }
 
-fn show_function(out: &mut Vec<u8>, store: &Store<'_>, n: u32, function: &HirFunction) -> Result<(), PrintError> {
-    write!(out, "function {n} {}(", function_type_name(function.fn_type))?;
+fn show_function(
+    out: &mut Vec<u8>,
+    store: &Store<'_>,
+    n: u32,
+    function: &HirFunction,
+) -> Result<(), PrintError> {
+    write!(
+        out,
+        "function {n} {}(",
+        function_type_name(function.fn_type)
+    )?;
     show_list(out, store, function.params)?;
     write!(out, ")")?;
     if function.context.count > 0 {
@@ -43,9 +70,17 @@ fn show_function(out: &mut Vec<u8>, store: &Store<'_>, n: u32, function: &HirFun
     show_blocks(out, store, n, function)
 }
 
-fn show_blocks(out: &mut Vec<u8>, store: &Store<'_>, n: u32, function: &HirFunction) -> Result<(), PrintError> {
+fn show_blocks(
+    out: &mut Vec<u8>,
+    store: &Store<'_>,
+    n: u32,
+    function: &HirFunction,
+) -> Result<(), PrintError> {
     let Some(blocks) = store.blocks_of(function.blocks) else {
-        return Err(PrintError::unused("a block of function", n));
+        return Err(PrintError::Unused {
+            what: "a block of function",
+            number: n,
+        });
     };
     for (k, block) in blocks.iter().enumerate() {
         show_block(out, store, function.blocks.first as usize + k, block)?;
@@ -53,16 +88,27 @@ fn show_blocks(out: &mut Vec<u8>, store: &Store<'_>, n: u32, function: &HirFunct
     Ok(())
 }
 
-fn show_block(out: &mut Vec<u8>, store: &Store<'_>, number: usize, block: &BasicBlock) -> Result<(), PrintError> {
+fn show_block(
+    out: &mut Vec<u8>,
+    store: &Store<'_>,
+    number: usize,
+    block: &BasicBlock,
+) -> Result<(), PrintError> {
     write!(out, "bb{number} ({}):", block_kind_name(block.kind))?;
     show_predecessors(out, store, block.preds)?;
     writeln!(out)?;
     let Some(list) = store.numbers_of(block.instructions) else {
-        return Err(PrintError::unused("list number", block.instructions.first));
+        return Err(PrintError::Unused {
+            what: "list number",
+            number: block.instructions.first,
+        });
     };
     for number in list {
         let Some(row) = store.instruction(InstructionId(*number)) else {
-            return Err(PrintError::unused("row", *number));
+            return Err(PrintError::Unused {
+                what: "row",
+                number: *number,
+            });
         };
         show_row(out, store, row)?;
     }
@@ -71,7 +117,10 @@ fn show_block(out: &mut Vec<u8>, store: &Store<'_>, number: usize, block: &Basic
 
 fn show_predecessors(out: &mut Vec<u8>, store: &Store<'_>, run: Run) -> Result<(), PrintError> {
     let Some(numbers) = store.numbers_of(run) else {
-        return Err(PrintError::unused("list number", run.first));
+        return Err(PrintError::Unused {
+            what: "list number",
+            number: run.first,
+        });
     };
     if !numbers.is_empty() {
         write!(out, " predecessors")?;
@@ -82,7 +131,11 @@ fn show_predecessors(out: &mut Vec<u8>, store: &Store<'_>, run: Run) -> Result<(
     Ok(())
 }
 
-fn show_terminal(out: &mut Vec<u8>, store: &Store<'_>, block: &BasicBlock) -> Result<(), PrintError> {
+fn show_terminal(
+    out: &mut Vec<u8>,
+    store: &Store<'_>,
+    block: &BasicBlock,
+) -> Result<(), PrintError> {
     write!(out, "    {}", terminal_name(block.terminal))?;
     if block.terminal == 3 {
         write!(out, " {}", return_variant_name(block.detail))?;
@@ -173,7 +226,13 @@ fn show_tag(out: &mut Vec<u8>, store: &Store<'_>, places: &[Place]) -> Result<()
 }
 
 // The places whose role lies in a range, a space before each.
-fn show_roles(out: &mut Vec<u8>, store: &Store<'_>, places: &[Place], low: u8, high: u8) -> Result<(), PrintError> {
+fn show_roles(
+    out: &mut Vec<u8>,
+    store: &Store<'_>,
+    places: &[Place],
+    low: u8,
+    high: u8,
+) -> Result<(), PrintError> {
     for place in places {
         if low <= place.role && place.role <= high {
             write!(out, " ")?;
@@ -206,9 +265,16 @@ fn show_place(out: &mut Vec<u8>, store: &Store<'_>, place: &Place) -> Result<(),
 }
 
 // An identifier's name, where it has one, and its number.
-fn show_identifier(out: &mut Vec<u8>, store: &Store<'_>, id: IdentifierId) -> Result<(), PrintError> {
+fn show_identifier(
+    out: &mut Vec<u8>,
+    store: &Store<'_>,
+    id: IdentifierId,
+) -> Result<(), PrintError> {
     let Some(identifier) = store.identifier(id) else {
-        return Err(PrintError::unused("identifier", id.0));
+        return Err(PrintError::Unused {
+            what: "identifier",
+            number: id.0,
+        });
     };
     match identifier.name {
         IdentifierName::Absent => {}

@@ -1,7 +1,14 @@
-use std::alloc::Global;
+ghost use mathlib.Core.Path.{_≡_};
+ghost use lib.Chars.{codes};
+ghost use Rattle.std.specs.Of.String.{string-bytes};
+ghost use Rattle.std.specs.Places.{At};
+ghost use Rattle.std.specs.Vec.{made};
+ghost use Rattle.wotsirma.specs.Commands.{word};
 use super::failure::Failure;
 use super::failure::FailureFromAlloc;
-use quote::{Items, Rates};
+use quote::Items;
+use quote::Rates;
+use std::alloc::Global;
 
 // The forms in which a screen is written.
 #[derive(Clone, Copy)]
@@ -19,13 +26,19 @@ pub enum Command {
 }
 
 // The command of these words, the first of which is the program's own name.
-pub fn parse(heap: Global, words: &[String]) -> Result<Command, Failure> {
-    let Some(word) = words.get(1) else {
+pub fn parse(heap: Global, words: &[String]) -> Result<Command, Failure>
+    ensures { λ r. ⌜ made r (λ c. At (λ given. string-bytes given ≡ word c) (now (words .entry)) 1) ⌝ }
+{
+    let Some(first) = words.get(1) else {
         return Err(Failure::NoCommand);
     };
-    match word.as_str() {
+    match first.as_str() {
         "show" => alone(words, Command::Print(Form::Shown), "wotsirma show < SCREEN"),
-        "dump" => alone(words, Command::Print(Form::Dumped), "wotsirma dump < SCREEN"),
+        "dump" => alone(
+            words,
+            Command::Print(Form::Dumped),
+            "wotsirma dump < SCREEN",
+        ),
         "help" => alone(words, Command::Help, "wotsirma help"),
         "quote" => quote_of(words),
         other => Err(Failure::Command(String::from_str(heap, other)?)),
@@ -33,23 +46,36 @@ pub fn parse(heap: Global, words: &[String]) -> Result<Command, Failure> {
 }
 
 // A command that takes no further words.
-fn alone(words: &[String], command: Command, usage: &'static str) -> Result<Command, Failure> {
+fn alone(words: &[String], command: Command, usage: &'static str) -> Result<Command, Failure>
+    ensures { λ r. ⌜ made r (λ c. c ≡ command) ⌝ }
+{
     if words.len() > 2 {
         return Err(Failure::Words(usage));
     }
     Ok(command)
 }
 
-fn quote_of(words: &[String]) -> Result<Command, Failure> {
+fn quote_of(words: &[String]) -> Result<Command, Failure>
+    ensures { λ r. ⌜ made r (λ c. word c ≡ codes "quote") ⌝ }
+{
     if words.len() != 7 {
-        return Err(Failure::Words("wotsirma quote COMPONENTS PROPS COMPONENT_RATE PROP_RATE DISCOUNT"));
+        return Err(Failure::Words(
+            "wotsirma quote COMPONENTS PROPS COMPONENT_RATE PROP_RATE DISCOUNT",
+        ));
     }
     let components = number("COMPONENTS", &words[2])?;
     let props = number("PROPS", &words[3])?;
     let component = number("COMPONENT_RATE", &words[4])?;
     let prop = number("PROP_RATE", &words[5])?;
     let discount = number("DISCOUNT", &words[6])?;
-    Ok(Command::Quote(Items { components, props }, Rates { component, prop, discount }))
+    Ok(Command::Quote(
+        Items { components, props },
+        Rates {
+            component,
+            prop,
+            discount,
+        },
+    ))
 }
 
 // A number past 32 bits is past every limit too, so the largest one stands for it.

@@ -1,10 +1,12 @@
+use comma_lines::ReadError;
+use comma_lines::ReadErrorDisplay;
+use quote::OutOfRange;
+use screen_text::PrintError;
+use screen_text::PrintErrorDisplay;
 use std::alloc::AllocError;
 use std::alloc::Refused;
 use std::fmt;
 use std::io;
-use comma_lines::{ReadError, ReadErrorDisplay};
-use quote::OutOfRange;
-use screen_text::{PrintError, PrintErrorDisplay};
 
 // Why the program does not do what was asked.
 #[derive(Drop)]
@@ -26,7 +28,10 @@ pub impl fmt::Display for Failure as FailureDisplay {
     fn fmt<W: fmt::Write>(&self, f: &mut fmt::Formatter<W>) -> fmt::Result {
         match self {
             Failure::NoCommand => write!(f, "no command is given: `wotsirma help` lists them"),
-            Failure::Command(word) => write!(f, "there is no command `{word}`: `wotsirma help` lists them"),
+            Failure::Command(word) => write!(
+                f,
+                "there is no command `{word}`: `wotsirma help` lists them"
+            ),
             Failure::Words(usage) => write!(f, "usage: {usage}"),
             Failure::Number(what) => write!(f, "{what} is not a whole number"),
             Failure::Memory => write!(f, "there is not enough memory"),

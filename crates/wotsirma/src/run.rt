@@ -1,16 +1,25 @@
-use std::env;
-use std::io;
-use std::io::Write;
-use super::command::{parse, Command, Form};
+use super::command::Command;
+use super::command::Form;
+use super::command::parse;
 use super::failure::Failure;
 use super::failure::FailureFromAlloc;
 use super::failure::FailureFromOutOfRange;
 use super::failure::FailureFromPrint;
 use super::failure::FailureFromRead;
 use super::failure::FailureFromRefused;
-use comma_lines::{read, Screen};
-use quote::{quote, worked_example, Cents, CentsDisplay, Items, Rates};
-use screen_text::{dump, show};
+use comma_lines::Screen;
+use comma_lines::read;
+use quote::Cents;
+use quote::CentsDisplay;
+use quote::Items;
+use quote::Rates;
+use quote::quote;
+use quote::worked_example;
+use screen_text::dump;
+use screen_text::show;
+use std::env;
+use std::io;
+use std::io::Write;
 
 pub fn run(rt: &LibcRuntime) -> Result<(), Failure> {
     let words = words_of(rt)?;
@@ -62,14 +71,26 @@ fn put(rt: &LibcRuntime, bytes: &[u8]) -> Result<(), Failure> {
 
 fn run_quote(rt: &LibcRuntime, items: Items, rates: Rates) -> Result<(), Failure> {
     let price = quote(items, rates)?;
-    let text = format!(rt.alloc(), "gross {} cents, {}\nnet {} cents, {}\n", price.gross, Cents(price.gross), price.net, Cents(price.net))?;
+    let text = format!(
+        rt.alloc(),
+        "gross {} cents, {}\nnet {} cents, {}\n",
+        price.gross,
+        Cents(price.gross),
+        price.net,
+        Cents(price.net)
+    )?;
     put(rt, text.as_bytes())
 }
 
 fn run_help(rt: &LibcRuntime) -> Result<(), Failure> {
     put(rt, HELP.as_bytes())?;
     let price = worked_example()?;
-    let text = format!(rt.alloc(), "For example, quote 1 1 1000 5 500 gives {} gross and {} net: half a cent goes up.\n", Cents(price.gross), Cents(price.net))?;
+    let text = format!(
+        rt.alloc(),
+        "For example, quote 1 1 1000 5 500 gives {} gross and {} net: half a cent goes up.\n",
+        Cents(price.gross),
+        Cents(price.net)
+    )?;
     put(rt, text.as_bytes())
 }
 
