@@ -3,7 +3,6 @@
 mod fault;
 mod fields;
 mod lines;
-mod screen;
 
 pub use fault::Fault;
 pub use fault::FaultDisplay;
@@ -11,4 +10,3 @@ pub use fault::ReadError;
 pub use fault::ReadErrorDisplay;
 pub use fault::Wrong;
 pub use lines::read;
-pub use screen::Screen;

@@ -5,25 +5,34 @@ use super::fault::ReadErrorFromFault;
 use super::fault::ReadErrorFromRefused;
 use super::fault::Wrong;
 use super::fields::Fields;
-use super::screen::Screen;
 use hir::BasicBlock;
 use hir::FunctionId;
 use hir::HirFunction;
 use hir::Identifier;
 use hir::Instruction;
+use screen::Screen;
 use std::alloc::AllocError;
 use std::alloc::Global;
 
 // A screen from its comma lines: one line for each row, table by table.
 pub fn read(heap: Global, input: &str) -> Result<Screen, ReadError> {
-    let mut screen = Screen::new(heap);
-    let mut table = 0;
+    let mut reader = Reader {
+        screen: Screen::new(heap),
+        table: 0,
+    };
     let mut number: usize = 0;
     for line in input.lines() {
         number = number.saturating_add(1);
-        table = screen.read_line(heap, number, line, table)?;
+        reader.read_line(heap, number, line)?;
     }
-    Ok(screen)
+    Ok(reader.screen)
+}
+
+// The screen so far, and the table of the latest line, before which no later line may stand.
+#[derive(Drop)]
+struct Reader {
+    screen: Screen,
+    table: u8,
 }
 
 fn split_fields<'a>(heap: Global, line: &'a str) -> Result<Vec<&'a str>, AllocError> {
@@ -43,15 +52,9 @@ fn table_of(letter: &str) -> Option<u8> {
     }
 }
 
-impl Screen {
-    // Adds the row of one line; answers its table, before which no later line may stand.
-    fn read_line(
-        &mut self,
-        heap: Global,
-        number: usize,
-        line: &str,
-        last: u8,
-    ) -> Result<u8, ReadError> {
+impl Reader {
+    // Adds the row of one line.
+    fn read_line(&mut self, heap: Global, number: usize, line: &str) -> Result<(), ReadError> {
         let parts = split_fields(heap, line)?;
         let mut fields = Fields {
             parts: parts.as_slice(),
@@ -61,39 +64,42 @@ impl Screen {
         let Some(table) = table_of(fields.letter()) else {
             return Err(ReadError::Line(fields.fault("", Wrong::Letter)));
         };
-        if table < last {
+        if table < self.table {
             return Err(ReadError::Line(fields.fault("", Wrong::Order)));
         }
         match table {
             0 => self.read_identifier(&mut fields)?,
             1 => {
-                let place = fields.place(&mut self.text)?;
-                self.places.push(place)?;
+                let place = fields.place(&mut self.screen.text)?;
+                self.screen.places.push(place)?;
             }
             2 => self.read_instruction(&mut fields)?,
             3 => {
                 let number = fields.word("the list number")?;
-                self.numbers.push(number)?;
+                self.screen.numbers.push(number)?;
             }
             4 => self.read_block(&mut fields)?,
             _ => self.read_function(&mut fields)?,
         }
         fields.end()?;
-        Ok(table)
+        self.table = table;
+        Ok(())
     }
 
     fn read_identifier(&mut self, fields: &mut Fields<'_, '_>) -> Result<(), ReadError> {
         let declaration = fields.word("the declaration number")?;
-        let name = fields.identifier_name(&mut self.text)?;
-        self.identifiers.push(Identifier { declaration, name })?;
+        let name = fields.identifier_name(&mut self.screen.text)?;
+        self.screen
+            .identifiers
+            .push(Identifier { declaration, name })?;
         Ok(())
     }
 
     fn read_instruction(&mut self, fields: &mut Fields<'_, '_>) -> Result<(), ReadError> {
         let order = fields.word("the order")?;
         let kind = fields.small("the kind", 42)?;
-        let result = fields.place(&mut self.text)?;
-        let name = fields.name("the row's name", &mut self.text)?;
+        let result = fields.place(&mut self.screen.text)?;
+        let name = fields.name("the row's name", &mut self.screen.text)?;
         let detail = fields.between("the detail", 0, 18_446_744_073_709_551_615)?;
         let function = FunctionId(fields.word("the function number")?);
         let places = fields.run("the first place", "the count of places")?;
@@ -101,7 +107,8 @@ impl Screen {
         let opening = fields.word("the opening number")?;
         let closing = fields.word("the closing number")?;
         let effects = fields.word("the effects number")?;
-        self.instructions
+        self.screen
+            .instructions
             .push(Instruction {
                 order,
                 kind,
@@ -125,7 +132,8 @@ impl Screen {
         let places = fields.run("the first terminal place", "the count of terminal places")?;
         let instructions = fields.run("the first list number", "the count of rows")?;
         let preds = fields.run("the first predecessor", "the count of predecessors")?;
-        self.blocks
+        self.screen
+            .blocks
             .push(BasicBlock {
                 kind,
                 terminal,
@@ -142,10 +150,11 @@ impl Screen {
         let blocks = fields.run("the first block", "the count of blocks")?;
         let params = fields.run("the first parameter", "the count of parameters")?;
         let context = fields.run("the first context place", "the count of context places")?;
-        let returns = fields.place(&mut self.text)?;
-        let tag = fields.name("the tag", &mut self.text)?;
+        let returns = fields.place(&mut self.screen.text)?;
+        let tag = fields.name("the tag", &mut self.screen.text)?;
         let appended = fields.bit("the appended bit")?;
-        self.functions
+        self.screen
+            .functions
             .push(HirFunction {
                 fn_type,
                 blocks,

@@ -1,6 +1,8 @@
+//! A screen that owns its tables, to be lent to one call after another.
+
 ghost use mathlib.Core.Path.{_≡_};
 ghost use Rattle.std.specs.Slices.{found};
-ghost use Rattle.comma_lines.specs.Lent.{all-used, Lent};
+ghost use Rattle.screen.specs.Lent.{all-used, no-rows, Lent};
 use hir::BasicBlock;
 use hir::Counts;
 use hir::HirFunction;
@@ -23,7 +25,9 @@ pub struct Screen {
 }
 
 impl Screen {
-    pub fn new(heap: Global) -> Screen {
+    pub fn new(heap: Global) -> Screen
+        ensures { λ r. ⌜ all-used r ≡ no-rows ⌝ }
+    {
         Screen {
             text: Vec::new(heap),
             identifiers: Vec::new(heap),
