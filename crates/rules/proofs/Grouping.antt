@@ -8,15 +8,15 @@ use mathlib.Core.List.{List, [], _∷_, _++_, map}
 use lib.ListN.{length}
 use lib.Dec.{eqb}
 use Rattle.std.specs.declared.option.Option.the-variants.{None}
-use Rattle.rules.specs.Lists.{gathered, select, Lists, here, there, Distinct}
+use Rattle.rules.specs.Lists.{gathered, select, Lists, here, there, Distinct, Sublist}
 use Rattle.rules.specs.Views.{write, Bytes, PlaceV, InstructionV, FunctionV, absent, promoted, Hir, role-is, is-written, identifiers-of, reads, writes, is-element, is-global, results}
 use Rattle.rules.specs.Names.{known, tag-temporary, temporary}
 use Rattle.rules.specs.Props.{start-gathering, create-old-to-new-props-mapping, OutlinedJsxAttribute, collect-props, fresh, Bound, Mapping}
 use Rattle.rules.specs.Emit.{as-attribute, tag-places, last-of, take-tag, Prepared, prepare}
 use Rattle.rules.specs.Runs.{Attribute, attributes, Reading, Calls, runs, loaded, from-start}
 use Rattle.rules.specs.Drawn.{Admitted, Ordered}
-use Rattle.rules.proofs.Membership.{In, Out, in-out, in-left, in-right, in-head, in-gathered, out-parts, distinct-left, gathered-++, lists-none, lists-split}
-use Rattle.rules.proofs.Sublists.{Sub, sub-lists, sub-ordered, sub-before, All-before, before-or-last, ordered-left, ordered-right, ordered-split}
+use Rattle.rules.proofs.Membership.{select-in, selected, In, Out, in-out, in-left, in-right, in-head, in-gathered, out-parts, distinct-left, gathered-++, lists-none, lists-split}
+use Rattle.rules.proofs.Sublists.{sub-lists, sub-ordered, sub-before, All-before, before-or-last, ordered-left, ordered-right, ordered-split}
 use Rattle.rules.proofs.Steps.{role-read, runs-out}
 use Rattle.rules.proofs.Calling.{calls}
 use Rattle.rules.proofs.Settled.{settled-element, settled-load, not-phi}
@@ -24,7 +24,7 @@ use Rattle.rules.proofs.Growing.{Grown, grown-then, fresh-grown, fresh-length}
 use Rattle.rules.proofs.Gathered.{gather-grown, gather-leads, gather-covers, gather-from, empty-leads, Covered}
 use Rattle.rules.proofs.Bindings.{olds, bind-grown, bind-well, bind-covers, Well}
 use Rattle.rules.proofs.GroupValue.{place-read, Solved, Group}
-use Rattle.rules.proofs.TagLoads.{Copies, copies-from, copies-all, select-lists, select-from, places-of, member-places, places-member}
+use Rattle.rules.proofs.TagLoads.{Copies, copies-from, copies-all, places-of, member-places, places-member}
 
 take-grown : (h : Hir) → Grown h (take-tag h)
 take-grown h = record { functions = refl; bears = refl; rows = refl; identifiers = omega arith }
@@ -77,7 +77,7 @@ module _ {V : Type 0} (r : Reading V) (F : Hir) (f k : ℕ) (own rows : List Ins
       | inr p ↦ runs-out r c None (from-start e) before x (out-parts x (gathered writes before) (gathered writes rest) (subst (λ (z : List ℕ). Out x z) (gathered-++ writes before rest) (subst (λ (z : List InstructionV). Out x (gathered writes z)) eq (p .0))) .0) ∙ p .1 e a ]
 
   module _ (gs : List InstructionV) (known : (l : InstructionV) → Lists gs l → Known l)
-      (m : InstructionV) (ms : List InstructionV) (sub : Sub (m ∷ ms) rows) (jsx : (n : InstructionV) → Lists (m ∷ ms) n → is-element n ≡ true)
+      (m : InstructionV) (ms : List InstructionV) (sub : Sublist (m ∷ ms) rows) (jsx : (n : InstructionV) → Lists (m ∷ ms) n → is-element n ≡ true)
       (h₀ : Hir) (large : size ≤ length (h₀ .identifiers)) (going : collect-props h₀ (m ∷ ms) .ended ≡ false)
       (loads : List InstructionV) (cs : Copies gs (tag-places (m ∷ ms)) loads) where
 
@@ -88,7 +88,7 @@ module _ {V : Type 0} (r : Reading V) (F : Hir) (f k : ℕ) (own rows : List Ins
     load-member : (l : InstructionV) → Lists loads l → (n : InstructionV) × Lists (m ∷ ms) n × In (l .result .identifier) (reads n)
     load-member l q =
         let u = copies-from cs l q .1 in
-        let v = select-from (role-is 1) (places-of (m ∷ ms)) (u .0) (u .1) in
+        let v = selected (role-is 1) (places-of (m ∷ ms)) (u .0) (u .1) in
         let w = places-member (m ∷ ms) (u .0) (v .0) in
         (w .0, w .1, subst (λ x. In x (reads (w .0))) (sym (u .2)) (place-read (w .0 .places) (u .0) (w .2) (role-read (u .0 .role) 1 (v .1) refl)))
 
@@ -135,7 +135,7 @@ module _ {V : Type 0} (r : Reading V) (F : Hir) (f k : ℕ) (own rows : List Ins
       distinct-before = distinct-left (gathered writes before) (gathered writes (last-of m ms ∷ after)) (subst (λ (z : List ℕ). Distinct z) (gathered-++ writes before (last-of m ms ∷ after)) distinct-here)
 
       all-before : All-before before (m ∷ ms)
-      all-before = sub-before before after m ms distinct-here (subst (λ (z : List InstructionV). Sub (m ∷ ms) z) eq sub)
+      all-before = sub-before before after m ms distinct-here (subst (λ (z : List InstructionV). Sublist (m ∷ ms) z) eq sub)
 
       solve : (a : (b : Bound) → Lists (prepared .table) b → size ≤ b .fresh) (n : InstructionV) (ns : List InstructionV) → All-before before (n ∷ ns) → ((i : InstructionV) → Lists (n ∷ ns) i → is-element i ≡ true) → Solved r S given (results (m ∷ ms)) (prepared .table) size a (calls r e fs own) (n ∷ ns)
       solve a n [] b j = (tt, tt)
@@ -169,6 +169,6 @@ module _ {V : Type 0} (r : Reading V) (F : Hir) (f k : ℕ) (own rows : List Ins
               no-spread = λ p q. cov p q .no-spread;
               attr = λ p q a b. let u = cov p q .attr a b in subst (λ x. In x (olds (prepared .table))) (u .3) (bind-covers start entries (u .0) (u .1) (u .2));
               outside = λ p q a b. let u = cov p q .child a b in subst (λ x. In x (olds (prepared .table))) (u .3) (bind-covers start entries (u .0) (u .1) (u .2));
-              tag = λ p q a. copies-all cs p (select-lists (role-is 1) (places-of (m ∷ ms)) p (member-places (m ∷ ms) n p l q) a) };
+              tag = λ p q a. copies-all cs p (select-in (role-is 1) (places-of (m ∷ ms)) p (member-places (m ∷ ms) n p l q) a) };
           ordered = sub-ordered sub ordered;
           solved = solve (well .above) m ms all-before jsx }

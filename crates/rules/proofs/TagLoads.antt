@@ -48,19 +48,6 @@ copies-all (copy {p = q} {g} {ps} {ls} a e c) p m = elim (lists-head m) [
   | inr n ↦ or-right (eqb (p .identifier) (g .result .identifier)) (within (p .identifier) (results ls)) (copies-all c p n) ]
 
 -- places of members
-pub select-lists : (t : PlaceV → Bool) (ps : List PlaceV) (p : PlaceV) → Lists ps p → t p ≡ true → Lists (select t ps) p
-select-lists t [] p l h = lists-none l
-select-lists t (q ∷ ps) p l h = elim (lists-head l) [
-    inl e ↦ subst (λ b. Lists (elim b [ true ↦ q ∷ select t ps | false ↦ select t ps ]) p) (sym (subst (λ z. t z ≡ true) e h)) (subst (λ z. Lists (q ∷ select t ps) z) (sym e) here)
-  | inr m ↦ elim (t q) as (λ b. Lists (elim b [ true ↦ q ∷ select t ps | false ↦ select t ps ]) p) [ true ↦ there (select-lists t ps p m h) | false ↦ select-lists t ps p m h ] ]
-
-pub select-from : (t : PlaceV → Bool) (ps : List PlaceV) (p : PlaceV) → Lists (select t ps) p → Lists ps p × (t p ≡ true)
-select-from t [] p l = lists-none l
-select-from t (q ∷ ps) p l =
-    (elim (t q) as (λ b. t q ≡ b → Lists (elim b as (λ _. List PlaceV) [ true ↦ q ∷ select t ps | false ↦ select t ps ]) p → Lists (q ∷ ps) p × (t p ≡ true)) [
-      true ↦ λ h m. elim (lists-head m) [ inl e ↦ (subst (λ z. Lists (q ∷ ps) z) (sym e) here, subst (λ z. t z ≡ true) (sym e) h) | inr n ↦ (let u = select-from t ps p n in (there (u .0), u .1)) ]
-    | false ↦ λ h m. (let u = select-from t ps p m in (there (u .0), u .1)) ]) refl l
-
 abbrev pub places-of : List InstructionV → List PlaceV
 places-of ms = gathered (λ (m : InstructionV). m .places) ms
 
