@@ -2,13 +2,12 @@
 use Prim.Native.Nat.{ℕ}
 use mathlib.Core.Path.{_≡_, refl, sym, ap, ap₂, _∙_, subst}
 use mathlib.Core.Logic.{_⊎_, inl, inr}
-use mathlib.Core.Bool.{Bool, true, false}
 use mathlib.Core.List.{List, [], _∷_}
 use lib.Dec.{eqb}
 use Rattle.std.proofs.shelf.Tests.{or-left, or-right, eqb-true, eq-eqb, cases-bool}
 use Rattle.std.specs.declared.option.Option.{Option}
 use Rattle.std.specs.declared.option.Option.the-variants.{Some, None}
-use Rattle.rules.specs.Lists.{within, gathered, select, Lists, here, there}
+use Rattle.rules.specs.Lists.{within, gathered, Lists, here, there}
 use Rattle.rules.specs.Views.{PlaceV, InstructionV, results}
 use Rattle.rules.specs.Emit.{find-global, emit-load-globals}
 use Rattle.rules.proofs.Membership.{In, lists-none, lists-head, lists-left, lists-right, lists-split}
