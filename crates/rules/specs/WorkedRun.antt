@@ -7,7 +7,7 @@ use lib.ListN.{length}
 use Rattle.std.specs.declared.option.Option.{Option}
 use Rattle.std.specs.declared.option.Option.the-variants.{Some, None}
 use Rattle.rules.specs.Lists.{within}
-use Rattle.rules.specs.Views.{Hir, place-of, row, still-read, function-at}
+use Rattle.rules.specs.Views.{Bytes, Hir, place-of, row, still-read, function-at}
 use Rattle.rules.specs.Runs.{Action, Tag, builtin, component, Attribute, attribute, spread, Reading, State, run}
 use Rattle.rules.specs.Drawn.{Admitted, Accepts, After, Filled}
 use Rattle.rules.specs.Cases.{at, attr, child, load, single, tile, unnamed, screen, filled, dd, Tile, v, report, reported, swept}
@@ -20,16 +20,20 @@ passed-on = filled (unnamed 6 0) (screen 2 5 (
   ∷ at 3 2 (tile 0 (attr v 4 ∷ child 1 ∷ []))
   ∷ at 4 5 (row 12 (place-of 5 0) None 0 (place-of 0 2 ∷ [])) ∷ []) ∷ [])
 
--- A reading in numbers, which tells elements apart by their tag, attributes and children.
+-- A reading in numbers, which tells elements apart by their tag, by the names and values of their attributes, and by their children.
+
+abbrev pub of-name : Option Bytes → ℕ
+of-name None = 3
+of-name (Some n) = length n
 
 abbrev pub of-tag : Tag ℕ → ℕ
-of-tag (builtin n) = 7
+of-tag (builtin n) = of-name n
 of-tag (component v) = v
 
 abbrev pub of-attributes : List (Attribute ℕ) → ℕ
 of-attributes [] = 1
-of-attributes (attribute n v ∷ ps) = v + 10 * of-attributes ps
-of-attributes (spread v ∷ ps) = v + 100 * of-attributes ps
+of-attributes (attribute n v ∷ ps) = of-name n + v + 7 * of-attributes ps
+of-attributes (spread v ∷ ps) = v + 11 * of-attributes ps
 
 abbrev pub of-list : List ℕ → ℕ
 of-list [] = 2
@@ -42,7 +46,7 @@ of-children (Some vs) = of-list vs
 abbrev pub numbers : Reading ℕ
 numbers = record {
     global = λ n d. 11 + d;
-    element = λ t ps c. of-tag t + 1000 * of-attributes ps + 1000000 * of-children c;
+    element = λ t ps c. of-tag t + 100 * of-attributes ps + 10000 * of-children c;
     other = λ f vs done k. of-list vs + length done + k }
 
 -- identifier x starts at 20 + x
@@ -55,10 +59,10 @@ ended h = run numbers h 0 0 start
 
 -- the values of the tile and of the call that it is passed to, and the one action: the call with the tile's value
 abbrev pub tile-value : ℕ
-tile-value = 5033013034015
+tile-value = 531083215
 
 abbrev pub call-value : ℕ
-call-value = 5033013034022
+call-value = 531083222
 
 abbrev pub call-action : Action ℕ
 call-action = record { fields = record { kind = 12; name = None; detail = 0; function = 0; names = None ∷ [] }; values = tile-value ∷ [] }
