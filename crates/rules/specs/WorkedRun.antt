@@ -7,18 +7,18 @@ use lib.ListN.{length}
 use Rattle.std.specs.declared.option.Option.{Option}
 use Rattle.std.specs.declared.option.Option.the-variants.{Some, None}
 use Rattle.rules.specs.Lists.{within}
-use Rattle.rules.specs.Views.{Bytes, Hir, place-of, row, still-read, function-at}
+use Rattle.rules.specs.Views.{Bytes, Hir, still-read, function-at}
 use Rattle.rules.specs.Runs.{Action, Tag, builtin, component, Attribute, attribute, spread, Reading, State, run}
 use Rattle.rules.specs.Drawn.{Admitted, Accepts, After, Filled}
-use Rattle.rules.specs.Cases.{at, attr, child, load, single, tile, unnamed, screen, filled, dd, Tile, v, report, reported, swept}
+use Rattle.rules.specs.Cases.{at, call-with, attr, child, load, single, tile, unnamed, screen, filled, dd, Tile, v, report, reported, swept}
 
--- the tile around an element, passed to a CallExpression (12), which acts, into 5, which is returned
+-- the tile around an element, passed to a call, which acts, into 5, which is returned
 abbrev pub passed-on : Hir
 passed-on = filled (unnamed 6 0) (screen 2 5 (
     at 1 0 (load Tile)
   ∷ at 2 1 (single dd (attr v 3 ∷ []))
   ∷ at 3 2 (tile 0 (attr v 4 ∷ child 1 ∷ []))
-  ∷ at 4 5 (row 12 (place-of 5 0) None 0 (place-of 0 2 ∷ [])) ∷ []) ∷ [])
+  ∷ at 4 5 (call-with 2) ∷ []) ∷ [])
 
 -- A reading in numbers, which tells elements apart by their tag, by the names and values of their attributes, and by their children.
 
