@@ -26,6 +26,7 @@ load-jsx tag load = row load-global-kind (place-of 5 load) (Some tag) 4 []
 abbrev pub jsx-expr : ℕ → List OutlinedJsxAttribute → InstructionV → InstructionV
 jsx-expr load es root = row jsx-kind (root .result) None 0 (place-of 1 load ∷ map as-attribute es)
 
+-- the two rows of the call
 abbrev pub emit-outlined-jsx : Bytes → ℕ → List OutlinedJsxAttribute → InstructionV → List InstructionV
 emit-outlined-jsx tag load es root = load-jsx tag load ∷ jsx-expr load es root ∷ []
 
@@ -35,6 +36,7 @@ emit-outlined-jsx tag load es root = load-jsx tag load ∷ jsx-expr load es root
 abbrev pub bound-place : Bound → PlaceV
 bound-place b = named-place 5 (Some (b .key)) (b .fresh)
 
+-- the Destructure row, with its result
 abbrev pub emit-destructure-props : ℕ → ℕ → List Bound → InstructionV
 emit-destructure-props param result table = row destructure-kind (place-of 5 result) None 9 (place-of 0 param ∷ map bound-place table)
 
@@ -42,6 +44,7 @@ emit-destructure-props param result table = row destructure-kind (place-of 5 res
 abbrev pub tag-places : List InstructionV → List PlaceV
 tag-places ms = select (role-is 1) (gathered (λ (m : InstructionV). m .places) ms)
 
+-- the load among the globals that writes an identifier
 abbrev pub find-global : List InstructionV → ℕ → Option InstructionV
 find-global [] x = None
 find-global (g ∷ gs) x = elim (eqb (g .result .identifier) x) [ true ↦ Some g | false ↦ find-global gs x ]
@@ -66,6 +69,7 @@ updated-places members table (p ∷ ps) =
 abbrev pub updated : List ℕ → List Bound → InstructionV → InstructionV
 updated members table m = record { order = m .order; kind = m .kind; result = m .result; name = m .name; detail = m .detail; function = m .function; places = updated-places members table (m .places); span = m .span; opening = m .opening; closing = m .closing; effects = m .effects }
 
+-- all members rebuilt
 abbrev pub emit-updated-jsx : List Bound → List InstructionV → List InstructionV
 emit-updated-jsx table ms = map (updated (results ms) table) ms
 
@@ -108,6 +112,7 @@ emit-outlined-fn t m ms loads = record {
 abbrev pub take-tag : Hir → Hir
 take-tag h = record { identifiers = h .identifiers; functions = h .functions; bears = h .bears; used-rows = h .used-rows; counter = suc (h .counter); mark = next-tag h; text = h .text ++ tag-name (next-tag h) }
 
+-- the tag, then the fresh identifiers in their order
 abbrev pub prepare : Hir → List OutlinedJsxAttribute → Prepared
 prepare h es =
     let load : ℕ = length (h .identifiers) in
@@ -138,9 +143,11 @@ pub record Report : Type 0 where
   pub abandoned : ℕ
   pub properties : ℕ
 
+-- nothing to report
 abbrev pub nothing : Report
 nothing = record { functions = 0; abandoned = 0; properties = 0 }
 
+-- two reports as one
 abbrev pub add : Report → Report → Report
 add a b = record { functions = a .functions + b .functions; abandoned = a .abandoned + b .abandoned; properties = a .properties + b .properties }
 
@@ -149,6 +156,7 @@ pub record Rewrite : Type 0 where
   pub root : ℕ
   pub rows : List InstructionV
 
+-- the store, what roots are to become, and what is to be reported
 pub record Outcome : Type 0 where
   pub hir : Hir
   pub rewrites : List Rewrite
@@ -163,6 +171,7 @@ outcome t es m ms (Some loads) = record {
     rewrites = record { root = last-of m ms .result .identifier; rows = emit-outlined-jsx (t .tag) (t .load) es (last-of m ms) } ∷ [];
     report = record { functions = 1; abandoned = 0; properties = length (t .table) } }
 
+-- the tag is taken before the loads are looked for
 abbrev pub emit : List InstructionV → InstructionV → List InstructionV → Hir → List OutlinedJsxAttribute → Outcome
 emit globals m ms h es = outcome (prepare h es) es m ms (emit-load-globals globals (tag-places (m ∷ ms)))
 

@@ -18,6 +18,7 @@ pub record Walk : Type 0 where
   pub rewrites : List Rewrite
   pub report : Report
 
+-- the children of these rows
 abbrev pub children : List InstructionV → List ℕ
 children ms = identifiers-of (select (role-is 4) (gathered (λ (m : InstructionV). m .places) ms))
 
@@ -27,6 +28,7 @@ process-and-outline-jsx type w =
     let o : Outcome = process-jsx-group type (w .globals) (w .members) (w .hir) in
     record { hir = o .hir; globals = w .globals; members = []; rewrites = o .rewrites ++ w .rewrites; report = add (w .report) (o .report) }
 
+-- a row joins the open group, before its other members
 abbrev pub joined : Walk → InstructionV → Walk
 joined w i = record { hir = w .hir; globals = w .globals; members = i ∷ w .members; rewrites = w .rewrites; report = w .report }
 
@@ -54,6 +56,7 @@ abbrev pub rewritten-row : List Rewrite → InstructionV → List InstructionV
 rewritten-row [] i = i ∷ []
 rewritten-row (r ∷ rs) i = elim (is-element i && eqb (r .root) (i .result .identifier)) [ true ↦ r .rows | false ↦ rewritten-row rs i ]
 
+-- for all rows of the block
 abbrev pub rewritten : List Rewrite → List InstructionV → List InstructionV
 rewritten rs is = gathered (rewritten-row rs) is
 

@@ -46,6 +46,7 @@ enter-attribute g p =
     let made : Made = generate-name (g .seen) (spell (p .name)) (g .counter) in
     enter g (write-changed (g .hir) (spell (p .name)) (made .name)) false p (p .name) made
 
+-- what stands where there is no identifier
 abbrev pub no-identifier : IdentifierV
 no-identifier = record { declaration = 0; name = absent }
 
@@ -79,6 +80,7 @@ gather-place members g p =
           true ↦ end g
         | false ↦ elim (role-is 4 p && not (within (p .identifier) members)) [ true ↦ enter-child g p | false ↦ g ] ] ] ]
 
+-- one place after the other
 abbrev pub gather : List ℕ → Gathering → List PlaceV → Gathering
 gather members g [] = g
 gather members g (p ∷ ps) = gather members (gather-place members g p) ps
@@ -117,6 +119,7 @@ abbrev pub latest : List Bound → ℕ → ℕ
 latest [] x = x
 latest (b ∷ bs) x = elim (eqb (b .old) x) [ true ↦ b .fresh | false ↦ latest bs x ]
 
+-- the store, and the ordered table
 pub record Mapping : Type 0 where
   pub hir : Hir
   pub table : List Bound
@@ -130,5 +133,6 @@ bind-entries m (e ∷ es) = elim (is-key-entry e) [
         hir = fresh (m .hir) (named (e .new-name));
         table = put (record { old = e .place .identifier; key = e .new-name; fresh = length (m .hir .identifiers) }) (m .table) }) es ]
 
+-- all of them, from an empty table
 abbrev pub create-old-to-new-props-mapping : Hir → List OutlinedJsxAttribute → Mapping
 create-old-to-new-props-mapping h es = bind-entries (record { hir = h; table = [] }) es
