@@ -32,7 +32,6 @@ no-calls own x = None
 abbrev pub calls : {V : Type 0} → Reading V → (ℕ → V) → List FunctionV → Lookup V
 calls r e fs = with-calls r e no-calls fs
 
-
 -- running a block with them
 abbrev pub run-folded : {V : Type 0} → Reading V → Hir → ℕ → ℕ → (ℕ → V) → State V
 run-folded r h f k e = runs r (calls r e (h .functions) (function-rows (function-at h f))) None (from-start e) (rows-at h f k)
@@ -59,8 +58,9 @@ pub loaded-all : (P : Option Bytes → Type 0) (own : List InstructionV) (x : �
 loaded-all P [] x n f = n
 loaded-all P (i ∷ is) x n f =
     (elim (is-global i && eqb (i .result .identifier) x) as (λ t. (is-global i && eqb (i .result .identifier) x) ≡ t → P (elim t [ true ↦ i .name | false ↦ loaded is x ])) [
-      true ↦ λ h. f i here (and-parts (is-global i) (eqb (i .result .identifier) x) h .0)
-    | false ↦ λ _. loaded-all P is x n (λ j l. f j (there l)) ]) refl
+      | true ↦ λ h. f i here (and-parts (is-global i) (eqb (i .result .identifier) x) h .0)
+      | false ↦ λ _. loaded-all P is x n (λ j l. f j (there l))
+    ]) refl
 
 -- a name that is loaded is borne
 pub borne-loaded : (own : List InstructionV) (gs : Bytes → Bool) (x : ℕ) → ((i : InstructionV) → Lists own i → is-global i ≡ true → Borne (i .name) gs) → Borne (loaded own x) gs
@@ -86,8 +86,9 @@ has-tag-known g (Some n) gs f h = go (g .tag) refl
 pub new-tag-apart : (g : FunctionV) (tag : Bytes) (gs : Bytes → Bool) (n : Option Bytes) → g .tag ≡ Some tag → gs tag ≡ false → Borne n gs → has-tag g n ≡ false
 new-tag-apart g tag gs None t o b = refl
 new-tag-apart g tag gs (Some n) t o b = and-right (g .appended) (same-name (g .tag) (Some n)) (elim (cases-bool (same-bytes tag n)) [
-    inl e ↦ absurd (both-ways (gs tag) o (subst (λ z. gs z ≡ true) (sym (same-true tag n e)) b))
-  | inr e ↦ ap (λ (z : Option Bytes). same-name z (Some n)) t ∙ e ])
+  | inl e ↦ absurd (both-ways (gs tag) o (subst (λ z. gs z ≡ true) (sym (same-true tag n e)) b))
+  | inr e ↦ ap (λ (z : Option Bytes). same-name z (Some n)) t ∙ e
+])
 
 module _ {V : Type 0} (r : Reading V) (e : ℕ → V) where
   plain-function : (l : Lookup V) (g : FunctionV) → g .appended ≡ false → with-call r e l g ≡ l

@@ -37,14 +37,17 @@ joined w i = record { hir = w .hir; globals = w .globals; members = i ∷ w .mem
 abbrev pub passed : (Hir → ℕ → Outcome) → ℕ → Walk → InstructionV → Walk
 passed inner type w i =
     elim (is-global i) [
-      true ↦ record { hir = w .hir; globals = i ∷ w .globals; members = w .members; rewrites = w .rewrites; report = w .report }
-    | false ↦ elim (is-function i) [
-        true ↦
-          let o : Outcome = inner (w .hir) (i .function) in
-          record { hir = o .hir; globals = w .globals; members = w .members; rewrites = w .rewrites; report = add (w .report) (o .report) }
-      | false ↦ elim (is-element i) [
-          true ↦ elim (within (i .result .identifier) (children (w .members))) [ true ↦ joined w i | false ↦ joined (process-and-outline-jsx type w) i ]
-        | false ↦ w ] ] ]
+      | true ↦ record { hir = w .hir; globals = i ∷ w .globals; members = w .members; rewrites = w .rewrites; report = w .report }
+      | false ↦ elim (is-function i) [
+        | true ↦
+            let o : Outcome = inner (w .hir) (i .function) in
+            record { hir = o .hir; globals = w .globals; members = w .members; rewrites = w .rewrites; report = add (w .report) (o .report) }
+        | false ↦ elim (is-element i) [
+          | true ↦ elim (within (i .result .identifier) (children (w .members))) [ true ↦ joined w i | false ↦ joined (process-and-outline-jsx type w) i ]
+          | false ↦ w
+        ]
+      ]
+    ]
 
 -- the rows from the last to the first; at the block's start the open group closes too
 abbrev pub walk-back : (Hir → ℕ → Outcome) → ℕ → Walk → List InstructionV → Walk

@@ -16,9 +16,9 @@ use Rattle.rules.specs.Cases.{at, call-with, attr, child, load, single, tile, 
 abbrev pub passed-on : Hir
 passed-on = filled (unnamed 6 0) (screen 2 5 (
     at 1 0 (load Tile)
-  ∷ at 2 1 (single dd (attr v 3 ∷ []))
-  ∷ at 3 2 (tile 0 (attr v 4 ∷ child 1 ∷ []))
-  ∷ at 4 5 (call-with 2) ∷ []) ∷ [])
+    ∷ at 2 1 (single dd (attr v 3 ∷ []))
+    ∷ at 3 2 (tile 0 (attr v 4 ∷ child 1 ∷ []))
+    ∷ at 4 5 (call-with 2) ∷ []) ∷ [])
 
 -- A reading in numbers, which tells elements apart by their tag, by the names and values of their attributes, and by their children.
 
@@ -51,9 +51,10 @@ of-children (Some vs) = of-list vs
 -- the reading
 abbrev pub numbers : Reading ℕ
 numbers = record {
-    global = λ n d. 11 + d;
-    element = λ t ps c. of-tag t + 100 * of-attributes ps + 10000 * of-children c;
-    other = λ f vs done k. of-list vs + length done + k }
+  global = λ n d. 11 + d;
+  element = λ t ps c. of-tag t + 100 * of-attributes ps + 10000 * of-children c;
+  other = λ f vs done k. of-list vs + length done + k;
+}
 
 -- identifier x starts at 20 + x
 abbrev pub start : ℕ → ℕ
