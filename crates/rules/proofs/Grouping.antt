@@ -65,10 +65,13 @@ module _ {V : Type 0} (r : Reading V) (F : Hir) (f k : ℕ) (own rows : List Ins
   pub record Known (l : InstructionV) : Type 0 where
     pub global : is-global l ≡ true
     pub name : In (l .result .identifier) (gathered reads rows) → loaded own (l .result .identifier) ≡ l .name
-    pub place : In (l .result .identifier) (gathered reads rows) → Lists rows l ⊎ (Out (l .result .identifier) (gathered writes rows) × ((e : ℕ → V) → Admitted r F f k e → e (l .result .identifier) ≡ r .global (l .name) (l .detail)))
+    pub place : In (l .result .identifier) (gathered reads rows)
+        → Lists rows l ⊎ (Out (l .result .identifier) (gathered writes rows) × ((e : ℕ → V) → Admitted r F f k e → e (l .result .identifier) ≡ r .global (l .name) (l .detail)))
 
   -- so at a cut of the block it has its value
-  load-right : (e : ℕ → V) → Admitted r F f k e → (c : Calls V) (before rest : List InstructionV) → rows ≡ before ++ rest → (l : InstructionV) → Known l → Out (l .result .identifier) (gathered writes rest) → In (l .result .identifier) (gathered reads rows) → runs r c None (from-start e) before .value (l .result .identifier) ≡ r .global (l .name) (l .detail)
+  load-right : (e : ℕ → V) → Admitted r F f k e → (c : Calls V) (before rest : List InstructionV) → rows ≡ before ++ rest → (l : InstructionV)
+      → Known l → Out (l .result .identifier) (gathered writes rest) → In (l .result .identifier) (gathered reads rows)
+      → runs r c None (from-start e) before .value (l .result .identifier) ≡ r .global (l .name) (l .detail)
   load-right e a c before rest eq l kn o i =
       let x = l .result .identifier in
       let d : Distinct (gathered writes before ++ gathered writes rest) = subst (λ (z : List ℕ). Distinct z) (gathered-++ writes before rest) (subst (λ (z : List InstructionV). Distinct (gathered writes z)) eq distinct) in
@@ -143,7 +146,9 @@ module _ {V : Type 0} (r : Reading V) (F : Hir) (f k : ℕ) (own rows : List Ins
       all-before = sub-before before after m ms distinct-here (subst (λ (z : List InstructionV). Sublist (m ∷ ms) z) eq sub)
 
       -- the members are satisfied by the values at the cut before the root
-      solve : (a : (b : Bound) → Lists (prepared .table) b → size ≤ b .fresh) (n : InstructionV) (ns : List InstructionV) → All-before before (n ∷ ns) → ((i : InstructionV) → Lists (n ∷ ns) i → is-element i ≡ true) → Solved r S given (results (m ∷ ms)) (prepared .table) size a (calls r e fs own) (n ∷ ns)
+      solve : (a : (b : Bound) → Lists (prepared .table) b → size ≤ b .fresh) (n : InstructionV) (ns : List InstructionV) → All-before before (n ∷ ns)
+          → ((i : InstructionV) → Lists (n ∷ ns) i → is-element i ≡ true)
+          → Solved r S given (results (m ∷ ms)) (prepared .table) size a (calls r e fs own) (n ∷ ns)
       solve a n [] b j = (tt, tt)
       solve a n (o ∷ ns) b j = (settled-element r (calls r e fs own) (from-start e) (b .0) (j n here) distinct-before (ordered-left before (last-of m ms ∷ after) ordered-here), solve a o ns (b .1) (λ i l. j i (there l)))
 
