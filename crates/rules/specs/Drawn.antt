@@ -106,6 +106,15 @@ pub record Filled (h : Hir) : Type 0 where
 abbrev pub Every-screen-as-drawn : Type 0 → Type 0
 Every-screen-as-drawn V = (filled h : Hir) → Filled filled → After filled h → (r : Reading V) → As-drawn r filled h
 
+-- The same in the form that a call can promise of its entry and its exit: if the entry is what calls on some filled store left, then so is
+-- the exit, and every screen of that store still behaves as drawn.
+abbrev pub Stays-as-drawn : Type 0 → Hir → Hir → Type 0
+Stays-as-drawn V h h′ = (filled : Hir) → Filled filled → After filled h → After filled h′ × ((r : Reading V) → As-drawn r filled h′)
+
+-- which every call does
+abbrev pub Every-call-keeps-it : Type 0 → Type 0
+Every-call-keeps-it V = (h h′ : Hir) → Ends h h′ → Stays-as-drawn V h h′
+
 -- and no two appended functions bear the same tag
 abbrev pub Every-tag-once : Type 0
 Every-tag-once = (filled h : Hir) → Filled filled → After filled h → (f g : ℕ) (n : Option Bytes) → has-tag (function-at h f) n ≡ true → has-tag (function-at h g) n ≡ true → f ≡ g
