@@ -1,0 +1,6 @@
+pub mod Ways
+pub mod Onward
+pub mod Groups
+pub mod Staying
+pub mod Counting
+pub mod Walks

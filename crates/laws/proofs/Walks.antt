@@ -1,0 +1,430 @@
+-- What every group and every new list of a walk keeps, the accepted walk keeps, and it stays within its counts.
+use Prim.Native.Nat.{ℕ, zero, suc, _+_, _*_, _/_, _<_, _≤_}
+use native.Mathlib.Omega.{arith}
+use mathlib.Core.Path.{_≡_, refl, sym, ap, ap₂, _∙_, subst}
+use mathlib.Core.Logic.{_⊎_, inl, inr}
+use mathlib.Core.Bool.{Bool, true, false, _||_}
+use mathlib.Core.List.{List, [], _∷_, _++_, append-assoc}
+use lib.ListN.{length, drop, length-append}
+use lib.Dec.{eqb}
+use Rattle.std.specs.declared.option.Option.{Option}
+use Rattle.std.specs.declared.option.Option.the-variants.{Some, None}
+use Rattle.std.proofs.shelf.Tests.{or-cases, or-right, both-ways, eqb-true, cases-bool, cases-eq}
+use Rattle.rules.specs.Lists.{within, gathered, changed, backwards, Lists, here, there, Distinct}
+use Rattle.rules.specs.Views.{InstructionV, BlockV, FunctionV, Hir, is-element, is-global, is-function, function-at, no-function, block-rows, rows-at, with-rows, with-blocks, with-functions, with-list}
+use Rattle.rules.specs.Props.{OutlinedJsxAttribute, collect-props}
+use Rattle.rules.specs.Emit.{Rewrite, Outcome, Report, nothing, add, done, Prepared, prepare, outcome, emit, emit-load-globals, tag-places, process-jsx-group}
+use Rattle.rules.specs.Eliminations.{listing, Meaning, Lawful, Thinned-all, no-block, block, eliminated}
+use Rattle.rules.specs.Outline.{Walk, rewritten, children, process-and-outline-jsx, joined, passed, walk-back, start-block, finished, walk-block, walk-blocks, outline-jsx-impl}
+use Rattle.rules.specs.Drawn.{inner, inner-of, on-walk}
+use Rattle.rules.proofs.Basics.{In, Out, in-out, in-left, in-right, in-head, out-parts, distinct-left, distinct-right, distinct-apart, lists-none, lists-head, lists-left, lists-right, lists-split}
+use Rattle.rules.proofs.Steps.{pick-true, pick-false}
+use Rattle.rules.proofs.Gathers.{length-changed}
+use Rattle.rules.proofs.Stores.{at-changed, at-other}
+use Rattle.rules.proofs.Elimination.{thinned-block}
+use Rattle.rules.proofs.Subs.{Sub, sub-none, keep, skip, sub-refl, sub-empty, sub-front, sub-lists, sub-in, sub-out, sub-distinct, sub-gathered, append-none, thinned-sub}
+use Rattle.rules.proofs.Blocks.{sub-trans, changed-there, listing-length, later-changed, later-thinned, later-split}
+use Rattle.laws.specs.Allowances.{Counts, no-counts, plus, row-counts, rows-counts, block-counts, blocks-counts, outside-components, function-counts, tally, walk-counts, Price, closing, passing, going-back, relisting, block-takes, blocks-take, takes}
+use Rattle.laws.proofs.Staying.{close-onward, close-keeps}
+use Rattle.laws.proofs.Ways.{close-ways, with-load, with-outcome, passed-ways, passing-ways}
+use Rattle.laws.proofs.Counting.{Le, le-refl, le-same, le-trans, le-plus, le-none, pair, new-list, row-yes, rows-sub, rows-backwards, block-sub, block-share, block-listed, outside-le, outside-two, all-elements, tally-++}
+
+backwards-++ : {A : Type 0} (xs : List A) (y : A) → backwards (xs ++ (y ∷ [])) ≡ y ∷ backwards xs
+backwards-++ [] y = refl
+backwards-++ (x ∷ xs) y = ap (λ l. l ++ (x ∷ [])) (backwards-++ xs y)
+
+backwards-twice : {A : Type 0} (xs : List A) → backwards (backwards xs) ≡ xs
+backwards-twice [] = refl
+backwards-twice (x ∷ xs) = backwards-++ (backwards xs) x ∙ ap (λ l. x ∷ l) (backwards-twice xs)
+
+-- what is reached rests on the functions that are reached
+gathered-same : {A : Type 0} (a b : ℕ → List A) (ys : List ℕ) → ((y : ℕ) → In y ys → a y ≡ b y) → gathered a ys ≡ gathered b ys
+gathered-same a b [] h = refl
+gathered-same a b (y ∷ ys) h = ap₂ (λ l n. l ++ n) (h y (in-head y ys)) (gathered-same a b ys (λ z q. h z (or-right (eqb z y) (within z ys) q)))
+
+in-gather : (a : ℕ → List ℕ) (x y : ℕ) (ys : List ℕ) → In y ys → In x (a y) → In x (gathered a ys)
+in-gather a x y [] h k = absurd (both-ways false refl h)
+in-gather a x y (z ∷ ys) h k = elim (or-cases (eqb y z) (within y ys) h) [
+    inl e ↦ in-left x (a z) (gathered a ys) (subst (λ n. In x (a n)) (eqb-true y z e) k)
+  | inr e ↦ in-right x (a z) (gathered a ys) (in-gather a x y ys e k) ]
+
+same-walk : (h s : Hir) (d x : ℕ) → ((g : ℕ) → In g (on-walk d h x) → function-at s g ≡ function-at h g) → on-walk d s x ≡ on-walk d h x
+same-walk h s zero x q = refl
+same-walk h s (suc d) x q =
+    let here′ : function-at s x ≡ function-at h x = q x (in-head x (gathered (on-walk d h) (inner-of (function-at h x .blocks)))) in
+    let ys = inner-of (function-at h x .blocks) in
+    ap (λ (g : FunctionV). x ∷ gathered (on-walk d s) (inner-of (g .blocks))) here′
+    ∙ ap (λ (l : List ℕ). x ∷ l) (gathered-same (on-walk d s) (on-walk d h) ys (λ y i. same-walk h s d y (λ g k. q g (or-right (eqb g x) (within g (gathered (on-walk d h) ys)) (in-gather (on-walk d h) g y ys i k)))))
+
+out-if : (x : ℕ) (xs : List ℕ) → (In x xs → ⊥) → Out x xs
+out-if x xs n = elim (cases-bool (within x xs)) [ inl e ↦ absurd (n e) | inr e ↦ e ]
+
+tally-same : (a b : ℕ → Counts) (xs : List ℕ) → ((x : ℕ) → In x xs → a x ≡ b x) → tally a xs ≡ tally b xs
+tally-same a b [] h = refl
+tally-same a b (x ∷ xs) h = ap₂ plus (h x (in-head x xs)) (tally-same a b xs (λ y q. h y (or-right (eqb y x) (within y xs) q)))
+
+-- The blocks that are still to be outline-jsx-impl.
+
+later-counts : (k : ℕ) (bs : List BlockV) → k < length bs → blocks-counts (drop k bs) ≡ plus (block-counts (block-rows bs k)) (blocks-counts (drop (suc k) bs))
+later-counts k [] h = absurd (omega arith)
+later-counts zero (b ∷ bs) h = refl
+later-counts (suc k) (b ∷ bs) h = later-counts k bs (omega arith)
+
+counts-changed : (rows : List InstructionV) (k : ℕ) (bs : List BlockV) → blocks-counts (drop (suc k) (changed (λ b. with-rows b rows) k bs)) ≡ blocks-counts (drop (suc k) bs)
+counts-changed rows zero [] = refl
+counts-changed rows (suc k) [] = refl
+counts-changed rows zero (b ∷ bs) = refl
+counts-changed rows (suc k) (b ∷ bs) = counts-changed rows k bs
+
+counts-thinned : {read : List ℕ} {bs : List BlockV} {ls : List (List InstructionV)} (k : ℕ) → Thinned-all read bs ls → Le (blocks-counts (drop k (listing bs ls))) (blocks-counts (drop k bs))
+counts-thinned zero no-block = le-refl no-counts
+counts-thinned zero (block {b = b} {js = js} {bs = bs} {ls = ls} t ts) = le-plus (block-counts js) (block-counts (b .rows)) (blocks-counts (listing bs ls)) (blocks-counts bs) (block-sub js (b .rows) (thinned-sub t)) (counts-thinned zero ts)
+counts-thinned (suc k) no-block = le-refl no-counts
+counts-thinned (suc k) (block t ts) = counts-thinned k ts
+
+-- Groups.
+
+-- what a closing group may take
+abbrev pub closing-counts : List InstructionV → Counts
+closing-counts [] = no-counts
+closing-counts (a ∷ []) = no-counts
+closing-counts (a ∷ b ∷ ms) = plus (rows-counts (a ∷ b ∷ ms)) (pair 1)
+
+-- what the rows still to be passed and the open group may take
+abbrev open-counts : List InstructionV → List InstructionV → Counts
+open-counts todo ms = plus (plus (rows-counts todo) (rows-counts ms)) (pair ((rows-counts todo .elements + rows-counts ms .elements) / 2))
+
+abbrev All-elements : List InstructionV → Type 0
+All-elements ms = (i : InstructionV) → Lists ms i → is-element i ≡ true
+
+one : (i : InstructionV) → is-element i ≡ true → row-counts i .elements ≡ 1
+one i h = ap (λ (c : Counts). c .elements) (row-yes i h)
+
+open-close : (todo ms : List InstructionV) (i : InstructionV) → is-element i ≡ true → All-elements ms → Le (plus (closing-counts ms) (open-counts todo (i ∷ []))) (open-counts (i ∷ todo) ms)
+open-close todo [] i h q = let e = one i h in omega arith
+open-close todo (a ∷ []) i h q = let e = one i h in let f = one a (q a here) in omega arith
+open-close todo (a ∷ b ∷ ms) i h q = let e = one i h in let f = one a (q a here) in let g = one b (q b (there here)) in omega arith
+
+open-last : (ms : List InstructionV) → All-elements ms → Le (closing-counts ms) (open-counts [] ms)
+open-last [] q = omega arith
+open-last (a ∷ []) q = omega arith
+open-last (a ∷ b ∷ ms) q = let f = one a (q a here) in let g = one b (q b (there here)) in omega arith
+
+-- a group gives a call for two members at least
+pub record Few (ms : List InstructionV) (ws : List Rewrite) : Type 0 where
+  pub few : 2 * length ws ≤ length ms
+  pub two : (v : Rewrite) → Lists ws v → length (v .rows) ≡ 2
+
+no-rewrites : (ms : List InstructionV) → Few ms []
+no-rewrites ms = record { few = omega arith; two = λ v l. lists-none l }
+
+outcome-few : (a b : InstructionV) (ms : List InstructionV) (t : Prepared) (es : List OutlinedJsxAttribute) (o : Option (List InstructionV)) → Few (a ∷ b ∷ ms) (outcome t es a (b ∷ ms) o .rewrites)
+outcome-few a b ms t es None = no-rewrites (a ∷ b ∷ ms)
+outcome-few a b ms t es (Some loads) = record { few = omega arith; two = λ v l. elim (lists-head l) [ inl e ↦ ap (λ (z : Rewrite). length (z .rows)) e | inr n ↦ lists-none n ] }
+
+pub close-few : (type : ℕ) (gs ms : List InstructionV) (h : Hir) → Few ms (process-jsx-group type gs ms h .rewrites)
+close-few type gs [] h = no-rewrites []
+close-few type gs (a ∷ []) h = no-rewrites (a ∷ [])
+close-few type gs (a ∷ b ∷ ms) h = close-ways (λ o. Few (a ∷ b ∷ ms) (o .rewrites)) type gs a b ms h (λ _. no-rewrites (a ∷ b ∷ ms)) (λ _ _. no-rewrites (a ∷ b ∷ ms))
+    (λ _ _. let g = collect-props h (a ∷ b ∷ ms) in outcome-few a b ms (prepare (g .hir) (g .entries)) (g .entries) (emit-load-globals gs (tag-places (a ∷ b ∷ ms))))
+
+-- The principle.
+
+-- A relation between the stores before and after, with the report, what was taken of one table, and the counts that pay for it:
+-- it goes from step to step, and holds of each group of two or more and of each new list.
+pub record Kept (m : Meaning) (n₀ : ℕ) (p : Price) (Ok : List InstructionV → Type 0) (Load-ok : InstructionV → Type 0) (R : Hir → Hir → Report → ℕ → Counts → Type 0) : Type 0 where
+  pub ok-sub : {xs ys : List InstructionV} → Sub xs ys → Ok ys → Ok xs
+  pub ok-load : (rows : List InstructionV) (i : InstructionV) → Ok rows → Lists rows i → is-global i ≡ true → Load-ok i
+  pub same : (h : Hir) → R h h nothing 0 no-counts
+  pub then : {a b c : Hir} {r s : Report} {x y : ℕ} {u v : Counts} → R a b r x u → R b c s y v → R a c (add r s) (x + y) (plus u v)
+  pub more : {a b : Hir} {r : Report} {x : ℕ} (u v : Counts) → Le u v → R a b r x u → R a b r x v
+  pub idle : (h : Hir) → p .group h (done h) ≡ 0
+  pub closes : (type : ℕ) (gs : List InstructionV) (a b : InstructionV) (ms : List InstructionV) (h : Hir) → eqb type 0 ≡ false
+      → ((i : InstructionV) → Lists gs i → Load-ok i) → All-elements (a ∷ b ∷ ms) → Ok (a ∷ b ∷ ms)
+      → R h (process-jsx-group type gs (a ∷ b ∷ ms) h .hir) (process-jsx-group type gs (a ∷ b ∷ ms) h .report) (p .group h (process-jsx-group type gs (a ∷ b ∷ ms) h)) (plus (rows-counts (a ∷ b ∷ ms)) (pair 1))
+  pub relists : (h : Hir) (f k : ℕ) (w : Rewrite) (ws : List Rewrite) → f < n₀ → n₀ ≤ length (h .functions) → Ok (rows-at h f k) → ((v : Rewrite) → Lists (w ∷ ws) v → length (v .rows) ≡ 2) → 2 * length (w ∷ ws) ≤ rows-counts (rows-at h f k) .elements
+      → R h (eliminated m (with-list h f k (rewritten (w ∷ ws) (rows-at h f k))) f) nothing (p .list (rewritten (w ∷ ws) (rows-at h f k))) (new-list (length (rows-at h f k) + rows-counts (rows-at h f k) .elements / 2))
+
+add-none : (r : Report) → add r nothing ≡ r
+add-none r =
+    let f : r .functions + 0 ≡ r .functions = omega arith in
+    let a : r .abandoned + 0 ≡ r .abandoned = omega arith in
+    let q : r .properties + 0 ≡ r .properties = omega arith in
+    ap (λ (n : ℕ). record { functions = n; abandoned = r .abandoned + 0; properties = r .properties + 0 }) f
+    ∙ ap (λ (n : ℕ). record { functions = r .functions; abandoned = n; properties = r .properties + 0 }) a
+    ∙ ap (λ (n : ℕ). record { functions = r .functions; abandoned = r .abandoned; properties = n }) q
+
+module _ (m : Meaning) (lawful : Lawful m) (n₀ : ℕ) (p : Price) (Ok : List InstructionV → Type 0) (Load-ok : InstructionV → Type 0) (R : Hir → Hir → Report → ℕ → Counts → Type 0) (kept : Kept m n₀ p Ok Load-ok R) where
+  resum : {a b : Hir} {r : Report} {u : Counts} (x y : ℕ) → x ≡ y → R a b r x u → R a b r y u
+  resum {a} {b} {r} {u} x y e q = subst (λ n. R a b r n u) e q
+
+  -- nothing happened
+  still : {a b : Hir} {r : Report} (x : ℕ) (u : Counts) → R a b r x u → R a b r (x + 0) (plus u no-counts)
+  still x u q = resum x (x + 0) (omega arith) (kept .more u (plus u no-counts) (omega arith) q)
+
+  idle-close : (h : Hir) (u : Counts) → R h h nothing (p .group h (done h)) u
+  idle-close h u = resum 0 (p .group h (done h)) (sym (kept .idle h)) (kept .more no-counts u (le-none u) (kept .same h))
+
+  close-related : (type : ℕ) (gs ms : List InstructionV) (h : Hir) → ((i : InstructionV) → Lists gs i → Load-ok i) → All-elements ms → Ok ms
+    → R h (process-jsx-group type gs ms h .hir) (process-jsx-group type gs ms h .report) (p .group h (process-jsx-group type gs ms h)) (outside-components type (closing-counts ms))
+  close-related type gs [] h l q o = idle-close h (outside-components type no-counts)
+  close-related type gs (a ∷ []) h l q o = idle-close h (outside-components type no-counts)
+  close-related type gs (a ∷ b ∷ ms) h l q o =
+      let c = closing-counts (a ∷ b ∷ ms) in
+      elim (cases-bool (eqb type 0)) [
+        inl e ↦ close-ways (λ x. R h (x .hir) (x .report) (p .group h x) (outside-components type c)) type gs a b ms h (λ _. idle-close h (outside-components type c)) (λ n _. absurd (both-ways (eqb type 0) n e)) (λ n _. absurd (both-ways (eqb type 0) n e))
+      | inr e ↦ kept .more c (outside-components type c) (le-same c (outside-components type c) (sym (pick-false (eqb type 0) no-counts c e))) (kept .closes type gs a b ms h e l q o) ]
+
+  abbrev Ok-function : FunctionV → Type 0
+  Ok-function g = (j : ℕ) → Ok (block-rows (g .blocks) j)
+
+  pub record Fine (d : ℕ) (h : Hir) (x : ℕ) : Type 0 where
+    pub distinct : Distinct (on-walk d h x)
+    pub each : (g : ℕ) → In g (on-walk d h x) → (g < n₀) × Ok-function (function-at h g)
+
+  pub record Result (d : ℕ) (h : Hir) (x : ℕ) : Type 0 where
+    pub related : R h (outline-jsx-impl d m h x .hir) (outline-jsx-impl d m h x .report) (takes p d m h x) (walk-counts d h x)
+    pub growing : length (h .functions) ≤ length (outline-jsx-impl d m h x .hir .functions)
+    pub untouched : (g : ℕ) → Out g (on-walk d h x) → g < length (h .functions) → function-at (outline-jsx-impl d m h x .hir) g ≡ function-at h g
+
+  module _ (d : ℕ) (ih : (h : Hir) (x : ℕ) → n₀ ≤ length (h .functions) → Fine d h x → Result d h x) (h₀ : Hir) (f : ℕ) (big : n₀ ≤ length (h₀ .functions)) (fine₀ : Fine (suc d) h₀ f) where
+    abbrev bs₀ : List BlockV
+    bs₀ = function-at h₀ f .blocks
+
+    abbrev Reach : List ℕ → List ℕ
+    Reach xs = gathered (on-walk d h₀) xs
+
+    abbrev reached-counts : List ℕ → Counts
+    reached-counts xs = tally (λ g. function-counts (function-at h₀ g)) (Reach xs)
+
+    f-here : In f (on-walk (suc d) h₀ f)
+    f-here = in-head f (Reach (inner-of bs₀))
+
+    f-low : f < n₀
+    f-low = fine₀ .each f f-here .0
+
+    -- what is still to be outline-jsx-impl is as it was
+    record Clean (s : Hir) (todo : List ℕ) : Type 0 where
+      pub distinct : Distinct (Reach todo)
+      pub apart : Out f (Reach todo)
+      pub same : (g : ℕ) → In g (Reach todo) → function-at s g ≡ function-at h₀ g
+      pub reached : (g : ℕ) → In g (Reach todo) → In g (Reach (inner-of bs₀))
+
+    clean-sub : (s : Hir) {xs ys : List ℕ} → Sub xs ys → Clean s ys → Clean s xs
+    clean-sub s b c = record {
+        distinct = sub-distinct (sub-gathered (on-walk d h₀) b) (c .distinct);
+        apart = sub-out f (sub-gathered (on-walk d h₀) b) (c .apart);
+        same = λ g i. c .same g (sub-in g (sub-gathered (on-walk d h₀) b) i);
+        reached = λ g i. c .reached g (sub-in g (sub-gathered (on-walk d h₀) b) i) }
+
+    clean-same : (s t : Hir) (todo : List ℕ) → ((g : ℕ) → In g (Reach todo) → function-at t g ≡ function-at s g) → Clean s todo → Clean t todo
+    clean-same s t todo e c = record { distinct = c .distinct; apart = c .apart; same = λ g i. e g i ∙ c .same g i; reached = c .reached }
+
+    reach-low : (g : ℕ) → In g (Reach (inner-of bs₀)) → g < n₀
+    reach-low g i = fine₀ .each g (or-right (eqb g f) (within g (Reach (inner-of bs₀))) i) .0
+
+    -- between blocks
+    record Between (s : Hir) (gs : List InstructionV) (k : ℕ) : Type 0 where
+      pub growing : length (h₀ .functions) ≤ length (s .functions)
+      pub part : (j : ℕ) → k ≤ j → Sub (block-rows (function-at s f .blocks) j) (block-rows bs₀ j)
+      pub len : length (function-at s f .blocks) ≡ length bs₀
+      pub type : function-at s f .type ≡ function-at h₀ f .type
+      pub loads : (i : InstructionV) → Lists gs i → Load-ok i
+      pub clean : Clean s (inner-of (drop k (function-at s f .blocks)))
+      pub untouched : (g : ℕ) → Out g (on-walk (suc d) h₀ f) → g < length (h₀ .functions) → function-at s g ≡ function-at h₀ g
+
+    module _ (c : Hir) (gs : List InstructionV) (k : ℕ) (start : Between c gs k) (short : k < length (function-at c f .blocks)) where
+      abbrev bs : List BlockV
+      bs = function-at c f .blocks
+
+      abbrev rows : List InstructionV
+      rows = block-rows bs k
+
+      abbrev type : ℕ
+      type = function-at c f .type
+
+      abbrev later : List ℕ
+      later = inner-of (drop (suc k) bs)
+
+      ok : Ok rows
+      ok = kept .ok-sub (start .part k (omega arith)) (fine₀ .each f f-here .1 k)
+
+      -- within block k
+      record Inside (w : Walk) (todo back : List InstructionV) : Type 0 where
+        pub growing : length (c .functions) ≤ length (w .hir .functions)
+        pub same-f : function-at (w .hir) f ≡ function-at c f
+        pub loads : (i : InstructionV) → Lists (w .globals) i → Load-ok i
+        pub members : Sub (w .members) back
+        pub jsx : All-elements (w .members)
+        pub few : 2 * length (w .rewrites) + length (w .members) ≤ rows-counts back .elements
+        pub two : (v : Rewrite) → Lists (w .rewrites) v → length (v .rows) ≡ 2
+        pub clean : Clean (w .hir) (inner todo ++ later)
+        pub untouched : (g : ℕ) → Out g (on-walk (suc d) h₀ f) → g < length (h₀ .functions) → function-at (w .hir) g ≡ function-at h₀ g
+
+      closed-inside : (w : Walk) (todo back : List InstructionV) → Inside w todo back → Inside (process-and-outline-jsx type w) todo back
+      closed-inside w todo back n =
+          let o = process-jsx-group type (w .globals) (w .members) (w .hir) in
+          let fw = close-few type (w .globals) (w .members) (w .hir) in
+          let a = fw .few in let b = n .few in
+          let gr = close-onward type (w .globals) (w .members) (w .hir) .functions in
+          let gw = n .growing in
+          let g₀ = start .growing in
+          let ap′ = length-append (o .rewrites) (w .rewrites) in
+          record {
+            growing = omega arith;
+            same-f = close-keeps type (w .globals) (w .members) (w .hir) f (let l = f-low in omega arith) ∙ n .same-f;
+            loads = n .loads;
+            members = sub-empty back;
+            jsx = λ i l. lists-none l;
+            few = omega arith;
+            two = λ v l. elim (lists-split (o .rewrites) l) [ inl q ↦ fw .two v q | inr q ↦ n .two v q ];
+            clean = clean-same (w .hir) (o .hir) (inner todo ++ later) (λ g q. close-keeps type (w .globals) (w .members) (w .hir) g (let l = reach-low g (n .clean .reached g q) in omega arith)) (n .clean);
+            untouched = λ g q l. close-keeps type (w .globals) (w .members) (w .hir) g (omega arith) ∙ n .untouched g q l }
+
+      later-row : (w : Walk) (i : InstructionV) (todo back : List InstructionV) → is-function i ≡ false → Inside w (i ∷ todo) back → Inside w todo (i ∷ back)
+      later-row w i todo back h n =
+          let b = n .few in
+          record {
+            growing = n .growing; same-f = n .same-f; loads = n .loads; members = skip (n .members); jsx = n .jsx; few = omega arith; two = n .two;
+            clean = subst (λ (l : List ℕ). Clean (w .hir) (l ++ later)) (pick-false (is-function i) (i .function ∷ inner todo) (inner todo) h) (n .clean);
+            untouched = n .untouched }
+
+      global-inside : (w : Walk) (i : InstructionV) (todo back : List InstructionV) → Lists rows i → is-global i ≡ true → Inside w (i ∷ todo) back → Inside (with-load w i) todo (i ∷ back)
+      global-inside w i todo back l g n =
+          let q = later-row w i todo back (ap (λ (x : ℕ). eqb x 31) (eqb-true (i .kind) 29 g)) n in
+          record {
+            growing = q .growing; same-f = q .same-f;
+            loads = λ j a. elim (lists-head a) [ inl e ↦ subst Load-ok (sym e) (kept .ok-load rows i ok l g) | inr a′ ↦ n .loads j a′ ];
+            members = q .members; jsx = q .jsx; few = q .few; two = q .two; clean = q .clean; untouched = q .untouched }
+
+      join-inside : (w : Walk) (i : InstructionV) (todo back : List InstructionV) → is-element i ≡ true → Inside w (i ∷ todo) back → Inside (joined w i) todo (i ∷ back)
+      join-inside w i todo back h n =
+          let q = later-row w i todo back (ap (λ (x : ℕ). eqb x 31) (eqb-true (i .kind) 16 h)) n in
+          let b = n .few in
+          let e = one i h in
+          record {
+            growing = q .growing; same-f = q .same-f; loads = q .loads;
+            members = keep (n .members);
+            jsx = λ j a. elim (lists-head a) [ inl e′ ↦ subst (λ (z : InstructionV). is-element z ≡ true) (sym e′) h | inr a′ ↦ n .jsx j a′ ];
+            few = omega arith;
+            two = q .two; clean = q .clean; untouched = q .untouched }
+
+      -- an inner function
+      module _ (w : Walk) (i : InstructionV) (todo back : List InstructionV) (h : is-function i ≡ true) (n : Inside w (i ∷ todo) back) where
+        abbrev x : ℕ
+        x = i .function
+
+        abbrev rest : List ℕ
+        rest = inner todo ++ later
+
+        abbrev mine : List ℕ
+        mine = on-walk d h₀ x
+
+        cl : Clean (w .hir) (x ∷ rest)
+        cl = subst (λ (l : List ℕ). Clean (w .hir) (l ++ later)) (pick-true (is-function i) (x ∷ inner todo) (inner todo) h) (n .clean)
+
+        same-mine : on-walk d (w .hir) x ≡ mine
+        same-mine = same-walk h₀ (w .hir) d x (λ g q. cl .same g (in-left g mine (Reach rest) q))
+
+        counted : walk-counts d (w .hir) x ≡ tally (λ g. function-counts (function-at h₀ g)) mine
+        counted = ap (tally (λ g. function-counts (function-at (w .hir) g))) same-mine ∙ tally-same (λ g. function-counts (function-at (w .hir) g)) (λ g. function-counts (function-at h₀ g)) mine (λ g q. ap function-counts (cl .same g (in-left g mine (Reach rest) q)))
+
+        fine : Fine d (w .hir) x
+        fine = record {
+            distinct = subst Distinct (sym same-mine) (distinct-left mine (Reach rest) (cl .distinct));
+            each = λ g q.
+              let q′ = in-left g mine (Reach rest) (subst (λ (l : List ℕ). In g l) same-mine q) in
+              let e₀ = fine₀ .each g (or-right (eqb g f) (within g (Reach (inner-of bs₀))) (cl .reached g q′)) in
+              (e₀ .0, subst Ok-function (sym (cl .same g q′)) (e₀ .1)) }
+
+        res : Result d (w .hir) x
+        res = let a = n .growing in let b = start .growing in ih (w .hir) x (omega arith) fine
+
+        out : (g : ℕ) → Out g mine → Out g (on-walk d (w .hir) x)
+        out g o = subst (λ (l : List ℕ). Out g l) (sym same-mine) o
+
+        function-inside : Inside (with-outcome w (outline-jsx-impl d m (w .hir) x)) todo (i ∷ back)
+        function-inside =
+            let a = n .growing in let a₀ = start .growing in let b = res .growing in let c′ = n .few in let lf = f-low in
+            record {
+              growing = omega arith;
+              same-f = res .untouched f (out f (out-parts f mine (Reach rest) (cl .apart) .0)) (omega arith) ∙ n .same-f;
+              loads = n .loads;
+              members = skip (n .members);
+              jsx = n .jsx;
+              few = omega arith;
+              two = n .two;
+              clean = clean-same (w .hir) (outline-jsx-impl d m (w .hir) x .hir) rest (λ g q. res .untouched g (out g (out-if g mine (λ a′. in-out g (Reach rest) q (distinct-apart g mine (Reach rest) (cl .distinct) a′)))) (let lw = reach-low g (cl .reached g (in-right g mine (Reach rest) q)) in omega arith)) (clean-sub (w .hir) (skip (sub-refl rest)) cl);
+              untouched = λ g o l. res .untouched g (out g (out-if g mine (λ a′. in-out g (on-walk (suc d) h₀ f) (or-right (eqb g f) (within g (Reach (inner-of bs₀))) (cl .reached g (in-left g mine (Reach rest) a′))) o))) (omega arith) ∙ n .untouched g o l }
+
+      pass-inside : (w : Walk) (i : InstructionV) (todo back : List InstructionV) → Lists rows i → Inside w (i ∷ todo) back → Inside (passed (outline-jsx-impl d m) type w i) todo (i ∷ back)
+      pass-inside w i todo back l n = passed-ways (λ v. Inside v todo (i ∷ back)) (outline-jsx-impl d m) type w i
+          (λ g. global-inside w i todo back l g n)
+          (λ _ h. function-inside w i todo back h n)
+          (λ _ _ j _. join-inside w i todo back j n)
+          (λ _ _ j _. join-inside (process-and-outline-jsx type w) i todo back j (closed-inside w (i ∷ todo) back n))
+          (λ _ h _. later-row w i todo back h n)
+
+      -- what the rows still to be passed may take
+      abbrev ahead : Walk → List InstructionV → Counts
+      ahead w todo = plus (outside-components type (open-counts todo (w .members))) (reached-counts (inner todo))
+
+      ok-members : (w : Walk) (todo back : List InstructionV) → Sub back rows → Inside w todo back → Ok (w .members)
+      ok-members w todo back s n = kept .ok-sub (sub-trans (n .members) s) ok
+
+      abbrev Step : Walk → InstructionV → List InstructionV → ℕ → Counts → Walk → ℕ → Type 0
+      Step w i todo y u v t = (δ : Counts) × R h₀ (v .hir) (v .report) (y + t) (plus u δ) × Le (plus δ (ahead v todo)) (ahead w (i ∷ todo))
+
+      reach-later : (i : InstructionV) (todo : List InstructionV) → is-function i ≡ false → reached-counts (inner (i ∷ todo)) ≡ reached-counts (inner todo)
+      reach-later i todo h = ap reached-counts (pick-false (is-function i) (i .function ∷ inner todo) (inner todo) h)
+
+      -- a row that takes nothing
+      quiet : (w v : Walk) (i : InstructionV) (todo : List InstructionV) (y : ℕ) (u : Counts) → v .hir ≡ w .hir → v .report ≡ w .report → is-function i ≡ false → Le (open-counts todo (v .members)) (open-counts (i ∷ todo) (w .members)) → R h₀ (w .hir) (w .report) y u → Step w i todo y u v 0
+      quiet w v i todo y u e e′ h l q =
+          let lo = outside-le type (open-counts todo (v .members)) (open-counts (i ∷ todo) (w .members)) l in
+          let lr = le-same (reached-counts (inner todo)) (reached-counts (inner (i ∷ todo))) (sym (reach-later i todo h)) in
+          (no-counts, subst (λ (z : Hir). R h₀ z (v .report) (y + 0) (plus u no-counts)) (sym e) (subst (λ (z : Report). R h₀ (w .hir) z (y + 0) (plus u no-counts)) (sym e′) (still y u q)), omega arith)
+
+      pass-step : (w : Walk) (i : InstructionV) (todo back : List InstructionV) → Sub back rows → Inside w (i ∷ todo) back → (y : ℕ) (u : Counts) → R h₀ (w .hir) (w .report) y u
+        → Step w i todo y u (passed (outline-jsx-impl d m) type w i) (passing p (takes p d m) type w i)
+      pass-step w i todo back s n y u q = passing-ways (Step w i todo y u) p (outline-jsx-impl d m) (takes p d m) type w i
+          (λ g. quiet w (with-load w i) i todo y u refl refl (ap (λ (z : ℕ). eqb z 31) (eqb-true (i .kind) 29 g)) (omega arith) q)
+          (λ _ h.
+            let δ = walk-counts d (w .hir) (i .function) in
+            let lc = le-same δ (tally (λ g. function-counts (function-at h₀ g)) (on-walk d h₀ (i .function))) (counted w i todo back h n) in
+            let lt = tally-++ (λ g. function-counts (function-at h₀ g)) (on-walk d h₀ (i .function)) (Reach (inner todo)) .0 in
+            let le = le-same (reached-counts (i .function ∷ inner todo)) (reached-counts (inner (i ∷ todo))) (ap reached-counts (sym (pick-true (is-function i) (i .function ∷ inner todo) (inner todo) h))) in
+            let lo = outside-le type (open-counts todo (w .members)) (open-counts (i ∷ todo) (w .members)) (omega arith) in
+            (δ, kept .then q (res w i todo back h n .related), omega arith))
+          (λ _ h j _. quiet w (joined w i) i todo y u refl refl h (omega arith) q)
+          (λ _ h j _.
+            let ms = w .members in
+            let lo = outside-two type (closing-counts ms) (open-counts todo (i ∷ [])) (open-counts (i ∷ todo) ms) (open-close todo ms i j (n .jsx)) in
+            let lr = le-same (reached-counts (inner todo)) (reached-counts (inner (i ∷ todo))) (sym (reach-later i todo h)) in
+            (outside-components type (closing-counts ms), kept .then q (close-related type (w .globals) ms (w .hir) (n .loads) (n .jsx) (ok-members w (i ∷ todo) back s n)), omega arith))
+          (λ _ h _. quiet w w i todo y u refl refl h (omega arith) q)
+
+      walk-inside : (w : Walk) (todo back : List InstructionV) → rows ≡ backwards todo ++ back → Inside w todo back → Inside (walk-back (outline-jsx-impl d m) type w todo) [] rows
+      walk-inside w [] back eq n = subst (λ (z : List InstructionV). Inside (process-and-outline-jsx type w) [] z) (sym eq) (closed-inside w [] back n)
+      walk-inside w (i ∷ todo) back eq n =
+          let eq′ : rows ≡ backwards todo ++ (i ∷ back) = eq ∙ append-assoc (backwards todo) (i ∷ []) back in
+          walk-inside (passed (outline-jsx-impl d m) type w i) todo (i ∷ back) eq′ (pass-inside w i todo back (subst (λ (z : List InstructionV). Lists z i) (sym eq′) (lists-right (backwards todo) here)) n)
+
+      walk-related : (w : Walk) (todo back : List InstructionV) → rows ≡ backwards todo ++ back → Inside w todo back → (y : ℕ) (u : Counts) → R h₀ (w .hir) (w .report) y u
+        → R h₀ (walk-back (outline-jsx-impl d m) type w todo .hir) (walk-back (outline-jsx-impl d m) type w todo .report) (y + going-back p (outline-jsx-impl d m) (takes p d m) type w todo) (plus u (ahead w todo))
+      walk-related w [] back eq n y u q =
+          let ms = w .members in
+          let s : Sub back rows = subst (λ (z : List InstructionV). Sub back z) (sym eq) (sub-refl back) in
+          let lo = outside-le type (closing-counts ms) (open-counts [] ms) (open-last ms (n .jsx)) in
+          kept .more (plus u (outside-components type (closing-counts ms))) (plus u (ahead w [])) (omega arith)
+            (kept .then q (close-related type (w .globals) ms (w .hir) (n .loads) (n .jsx) (ok-members w [] back s n)))
+      walk-related w (i ∷ todo) back eq n y u q =
+          let eq′ : rows ≡ backwards todo ++ (i ∷ back) = eq ∙ append-assoc (backwards todo) (i ∷ []) back in
+          let s : Sub back rows = subst (λ (z : List InstructionV). Sub back z) (sym eq′) (sub-front (backwards todo) (skip (sub-refl back))) in
+          let v = passed (outline-jsx-impl d m) type w i in
+          let t = passing p (takes p d m) type w i in
+          let st = pass-step w i todo back s n y u q in
+          let fin = walk-related v todo (i ∷ back) eq′ (pass-inside w i todo back (subst (λ (z : List InstructionV). Lists z i) (sym eq′) (lists-right (backwards todo) here)) n) (y + t) (plus u (st .0)) (st .1) in
+          let l = st .2 in
+          kept .more (plus (plus u (st .0)) (ahead v todo)) (plus u (ahead w (i ∷ todo))) (omega arith)
+            (resum (y + t + going-back p (outline-jsx-impl d m) (takes p d m) type v todo) (y + (t + going-back p (outline-jsx-impl d m) (takes p d m) type v todo)) (omega arith) fin)

@@ -1,0 +1,173 @@
+-- How much an outline may take of each table, counted beforehand on the functions that it walks.
+use Prim.Native.Nat.{ℕ, zero, suc, _+_, _-_, _*_, _/_, _<_, _≤_}
+use mathlib.Core.Path.{_≡_}
+use mathlib.Core.Bool.{Bool, true, false}
+use mathlib.Core.List.{List, [], _∷_, _++_}
+use lib.ListN.{length}
+use lib.Dec.{eqb, leb}
+use Rattle.rules.specs.Lists.{select, gathered, backwards, within}
+use Rattle.rules.specs.Views.{Bytes, PlaceV, InstructionV, BlockV, FunctionV, Hir, role-is, is-element, is-global, is-function, function-rows, function-at, rows-at}
+use Rattle.rules.specs.Names.{spell}
+use Rattle.rules.specs.Emit.{Rewrite, Outcome, nothing, process-jsx-group}
+use Rattle.rules.specs.Eliminations.{Meaning}
+use Rattle.rules.specs.Outline.{Walk, children, passed, walk-back, rewritten, start-block, walk-block, outline-jsx-impl}
+use Rattle.rules.specs.Drawn.{on-walk}
+
+-- What is counted: attributes, children, elements, the elements of each block halved, the rows of new lists, and the bytes of attribute names.
+pub record Counts : Type 0 where
+  pub attributes : ℕ
+  pub children : ℕ
+  pub elements : ℕ
+  pub pairs : ℕ
+  pub listed : ℕ
+  pub letters : ℕ
+
+abbrev pub no-counts : Counts
+no-counts = record { attributes = 0; children = 0; elements = 0; pairs = 0; listed = 0; letters = 0 }
+
+abbrev pub plus : Counts → Counts → Counts
+plus a b = record { attributes = a .attributes + b .attributes; children = a .children + b .children; elements = a .elements + b .elements; pairs = a .pairs + b .pairs; listed = a .listed + b .listed; letters = a .letters + b .letters }
+
+-- the bytes of the names of places
+abbrev pub letters-of : List PlaceV → ℕ
+letters-of [] = 0
+letters-of (p ∷ ps) = length (spell (p .name)) + letters-of ps
+
+-- an element counts its attributes, its children, itself and the bytes of its attributes' names
+abbrev pub element-counts : InstructionV → Counts
+element-counts i = record { attributes = length (select (role-is 2) (i .places)); children = length (select (role-is 4) (i .places)); elements = 1; pairs = 0; listed = 0; letters = letters-of (select (role-is 2) (i .places)) }
+
+abbrev pub row-counts : InstructionV → Counts
+row-counts i = elim (is-element i) [ true ↦ element-counts i | false ↦ no-counts ]
+
+abbrev pub rows-counts : List InstructionV → Counts
+rows-counts [] = no-counts
+rows-counts (i ∷ is) = plus (row-counts i) (rows-counts is)
+
+-- a block has a half of its elements, rounded down, as the most groups of two or more; its new list has a row more for each
+abbrev pub halved : ℕ → ℕ → Counts
+halved elements rows = record { attributes = 0; children = 0; elements = 0; pairs = elements / 2; listed = elim (leb 2 elements) [ true ↦ rows + elements / 2 | false ↦ 0 ]; letters = 0 }
+
+abbrev pub block-counts : List InstructionV → Counts
+block-counts rows = plus (rows-counts rows) (halved (rows-counts rows .elements) (length rows))
+
+abbrev pub blocks-counts : List BlockV → Counts
+blocks-counts [] = no-counts
+blocks-counts (b ∷ bs) = plus (block-counts (b .rows)) (blocks-counts bs)
+
+-- a Component counts nothing
+abbrev pub outside-components : ℕ → Counts → Counts
+outside-components type c = elim (eqb type 0) [ true ↦ no-counts | false ↦ c ]
+
+abbrev pub function-counts : FunctionV → Counts
+function-counts f = outside-components (f .type) (blocks-counts (f .blocks))
+
+abbrev pub tally : (ℕ → Counts) → List ℕ → Counts
+tally c [] = no-counts
+tally c (x ∷ xs) = plus (c x) (tally c xs)
+
+-- the functions on the walk from a function, to a depth
+abbrev pub walk-counts : ℕ → Hir → ℕ → Counts
+walk-counts d h f = tally (λ g. function-counts (function-at h g)) (on-walk d h f)
+
+-- The allowances.
+
+abbrev pub identifiers-allowed : Counts → ℕ
+identifiers-allowed c = c .attributes + c .children + 4 * c .pairs
+
+abbrev pub instructions-allowed : Counts → ℕ
+instructions-allowed c = 3 * c .pairs + 2 * c .elements
+
+abbrev pub numbers-allowed : Counts → ℕ
+numbers-allowed c = c .pairs + 2 * c .elements + c .listed
+
+abbrev pub places-allowed : Counts → ℕ
+places-allowed c = 4 * c .pairs + c .elements + 3 * (c .attributes + c .children)
+
+abbrev pub blocks-allowed : Counts → ℕ
+blocks-allowed c = c .pairs
+
+abbrev pub functions-allowed : Counts → ℕ
+functions-allowed c = c .pairs
+
+abbrev pub text-allowed : Counts → ℕ
+text-allowed c = c .letters + 10 * c .attributes + 23 * c .children + 39 * c .pairs
+
+-- What a walk takes.
+
+-- of one table: what a group takes, by the store before it and what came of it, and what a block's new list takes
+pub record Price : Type 0 where
+  pub group : Hir → Outcome → ℕ
+  pub list : List InstructionV → ℕ
+
+abbrev pub closing : Price → ℕ → Walk → ℕ
+closing p type w = p .group (w .hir) (process-jsx-group type (w .globals) (w .members) (w .hir))
+
+-- passing one row: an inner function takes what its own walk does
+abbrev pub passing : Price → (Hir → ℕ → ℕ) → ℕ → Walk → InstructionV → ℕ
+passing p inside type w i =
+    elim (is-global i) [
+      true ↦ 0
+    | false ↦ elim (is-function i) [
+        true ↦ inside (w .hir) (i .function)
+      | false ↦ elim (is-element i) [
+          true ↦ elim (within (i .result .identifier) (children (w .members))) [ true ↦ 0 | false ↦ closing p type w ]
+        | false ↦ 0 ] ] ]
+
+abbrev pub going-back : Price → (Hir → ℕ → Outcome) → (Hir → ℕ → ℕ) → ℕ → Walk → List InstructionV → ℕ
+going-back p inner inside type w [] = closing p type w
+going-back p inner inside type w (i ∷ is) = passing p inside type w i + going-back p inner inside type (passed inner type w i) is
+
+-- a new list is written only where a group was outline-jsx
+abbrev pub relisting : Price → List Rewrite → List InstructionV → ℕ
+relisting p [] rows = 0
+relisting p (r ∷ rs) rows = p .list (rewritten (r ∷ rs) rows)
+
+abbrev pub block-takes : Price → (Hir → ℕ → Outcome) → (Hir → ℕ → ℕ) → ℕ → ℕ → Walk → ℕ
+block-takes p inner inside f k w =
+    let type : ℕ = function-at (w .hir) f .type in
+    let start : Walk = start-block (w .hir) (w .globals) (w .report) in
+    let rows : List InstructionV = rows-at (w .hir) f k in
+    let v : Walk = walk-back inner type start (backwards rows) in
+    going-back p inner inside type start (backwards rows) + relisting p (v .rewrites) (rows-at (v .hir) f k)
+
+abbrev pub blocks-take : ℕ → Price → Meaning → (Hir → ℕ → Outcome) → (Hir → ℕ → ℕ) → ℕ → ℕ → Walk → ℕ
+blocks-take zero p m inner inside f k w = 0
+blocks-take (suc n) p m inner inside f k w = block-takes p inner inside f k w + blocks-take n p m inner inside f (suc k) (walk-block m inner f k w)
+
+-- what the walk from a function takes, to a depth
+abbrev pub takes : Price → ℕ → Meaning → Hir → ℕ → ℕ
+takes p zero m h f = 0
+takes p (suc d) m h f = blocks-take (length (function-at h f .blocks)) p m (outline-jsx-impl d m) (takes p d m) f 0 (start-block h [] nothing)
+
+-- the function that a group appends to a store
+abbrev pub appended-by : Hir → Outcome → FunctionV
+appended-by h o = function-at (o .hir) (length (h .functions))
+
+abbrev pub places-of : List InstructionV → ℕ
+places-of rows = length (gathered (λ (i : InstructionV). i .places) rows)
+
+abbrev pub terminal-places : List BlockV → ℕ
+terminal-places [] = 0
+terminal-places (b ∷ bs) = length (b .places) + terminal-places bs
+
+-- instructions: the rows of the function, and those that stand in the root's place
+abbrev pub group-instructions : Hir → Outcome → ℕ
+group-instructions h o = elim (o .rewrites) [ [] ↦ 0 | r ∷ rs ↦ length (function-rows (appended-by h o)) + length (r .rows) ]
+
+-- places: those of these rows, the parameters, and the terminal's
+abbrev pub group-places : Hir → Outcome → ℕ
+group-places h o = elim (o .rewrites) [ [] ↦ 0 | r ∷ rs ↦ places-of (function-rows (appended-by h o)) + terminal-places (appended-by h o .blocks) + length (appended-by h o .params) + length (appended-by h o .context) + places-of (r .rows) ]
+
+-- list numbers: the list of the function's block
+abbrev pub group-numbers : Hir → Outcome → ℕ
+group-numbers h o = elim (o .rewrites) [ [] ↦ 0 | r ∷ rs ↦ length (function-rows (appended-by h o)) ]
+
+abbrev pub instructions : Price
+instructions = record { group = group-instructions; list = λ rows. 0 }
+
+abbrev pub places : Price
+places = record { group = group-places; list = λ rows. 0 }
+
+abbrev pub numbers : Price
+numbers = record { group = group-numbers; list = λ rows. length rows }
