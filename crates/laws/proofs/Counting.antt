@@ -114,3 +114,8 @@ all-elements (i ∷ ms) h =
 pub tally-++ : (c : ℕ → Counts) (xs ys : List ℕ) → Le (plus (tally c xs) (tally c ys)) (tally c (xs ++ ys)) × Le (tally c (xs ++ ys)) (plus (tally c xs) (tally c ys))
 tally-++ c [] ys = (omega arith, omega arith)
 tally-++ c (x ∷ xs) ys = let q = tally-++ c xs ys in let a = q .0 in let b = q .1 in (omega arith, omega arith)
+
+pub tally-sub : (c : ℕ → Counts) {xs ys : List ℕ} → Sub xs ys → Le (tally c xs) (tally c ys)
+tally-sub c sub-none = le-refl no-counts
+tally-sub c (keep {x = x} {xs = xs} {ys = ys} s) = le-plus (c x) (c x) (tally c xs) (tally c ys) (le-refl (c x)) (tally-sub c s)
+tally-sub c (skip {y = y} {xs = xs} {ys = ys} s) = let q = tally-sub c s in omega arith

@@ -11,13 +11,13 @@ use Rattle.std.specs.declared.option.Option.{Option}
 use Rattle.std.specs.declared.option.Option.the-variants.{Some, None}
 use Rattle.std.proofs.shelf.Tests.{or-cases, or-right, both-ways, eqb-true, cases-bool, cases-eq}
 use Rattle.rules.specs.Lists.{within, gathered, changed, backwards, Lists, here, there, Distinct}
-use Rattle.rules.specs.Views.{InstructionV, BlockV, FunctionV, Hir, is-element, is-global, is-function, function-at, no-function, block-rows, rows-at, with-rows, with-blocks, with-functions, with-list}
+use Rattle.rules.specs.Views.{still-read, InstructionV, BlockV, FunctionV, Hir, is-element, is-global, is-function, function-at, no-function, block-rows, rows-at, with-rows, with-blocks, with-functions, with-list}
 use Rattle.rules.specs.Props.{OutlinedJsxAttribute, collect-props}
 use Rattle.rules.specs.Emit.{Rewrite, Outcome, Report, nothing, add, done, Prepared, prepare, outcome, emit, emit-load-globals, tag-places, process-jsx-group}
 use Rattle.rules.specs.Eliminations.{listing, Meaning, Lawful, Thinned-all, no-block, block, eliminated}
 use Rattle.rules.specs.Outline.{Walk, rewritten, children, process-and-outline-jsx, joined, passed, walk-back, start-block, finished, walk-block, walk-blocks, outline-jsx-impl}
 use Rattle.rules.specs.Drawn.{inner, inner-of, on-walk}
-use Rattle.rules.proofs.Basics.{In, Out, in-out, in-left, in-right, in-head, out-parts, distinct-left, distinct-right, distinct-apart, lists-none, lists-head, lists-left, lists-right, lists-split}
+use Rattle.rules.proofs.Basics.{In, Out, in-out, in-left, in-right, in-head, out-parts, distinct-left, distinct-right, distinct-apart, gathered-++, lists-none, lists-head, lists-left, lists-right, lists-split}
 use Rattle.rules.proofs.Steps.{pick-true, pick-false}
 use Rattle.rules.proofs.Gathers.{length-changed}
 use Rattle.rules.proofs.Stores.{at-changed, at-other}
@@ -27,7 +27,7 @@ use Rattle.rules.proofs.Blocks.{sub-trans, changed-there, listing-length, later
 use Rattle.laws.specs.Allowances.{Counts, no-counts, plus, row-counts, rows-counts, block-counts, blocks-counts, outside-components, function-counts, tally, walk-counts, Price, closing, passing, going-back, relisting, block-takes, blocks-take, takes}
 use Rattle.laws.proofs.Staying.{close-onward, close-keeps}
 use Rattle.laws.proofs.Ways.{close-ways, with-load, with-outcome, passed-ways, passing-ways}
-use Rattle.laws.proofs.Counting.{Le, le-refl, le-same, le-trans, le-plus, le-none, pair, new-list, row-yes, rows-sub, rows-backwards, block-sub, block-share, block-listed, outside-le, outside-two, all-elements, tally-++}
+use Rattle.laws.proofs.Counting.{Le, le-refl, le-same, le-trans, le-plus, le-none, pair, new-list, row-yes, rows-sub, rows-backwards, block-sub, block-share, block-listed, outside-le, outside-two, tally-++, tally-sub}
 
 backwards-++ : {A : Type 0} (xs : List A) (y : A) → backwards (xs ++ (y ∷ [])) ≡ y ∷ backwards xs
 backwards-++ [] y = refl
@@ -63,7 +63,7 @@ tally-same : (a b : ℕ → Counts) (xs : List ℕ) → ((x : ℕ) → In x xs �
 tally-same a b [] h = refl
 tally-same a b (x ∷ xs) h = ap₂ plus (h x (in-head x xs)) (tally-same a b xs (λ y q. h y (or-right (eqb y x) (within y xs) q)))
 
--- The blocks that are still to be outline-jsx-impl.
+-- The blocks that are still to be walked.
 
 later-counts : (k : ℕ) (bs : List BlockV) → k < length bs → blocks-counts (drop k bs) ≡ plus (block-counts (block-rows bs k)) (blocks-counts (drop (suc k) bs))
 later-counts k [] h = absurd (omega arith)
@@ -110,23 +110,24 @@ open-last [] q = omega arith
 open-last (a ∷ []) q = omega arith
 open-last (a ∷ b ∷ ms) q = let f = one a (q a here) in let g = one b (q b (there here)) in omega arith
 
--- a group gives a call for two members at least
-pub record Few (ms : List InstructionV) (ws : List Rewrite) : Type 0 where
+-- a group gives a call of two rows for two members at least, and none in a Component
+pub record Few (type : ℕ) (ms : List InstructionV) (ws : List Rewrite) : Type 0 where
   pub few : 2 * length ws ≤ length ms
   pub two : (v : Rewrite) → Lists ws v → length (v .rows) ≡ 2
+  pub component : eqb type 0 ≡ true → ws ≡ []
 
-no-rewrites : (ms : List InstructionV) → Few ms []
-no-rewrites ms = record { few = omega arith; two = λ v l. lists-none l }
+no-rewrites : (type : ℕ) (ms : List InstructionV) → Few type ms []
+no-rewrites type ms = record { few = omega arith; two = λ v l. lists-none l; component = λ _. refl }
 
-outcome-few : (a b : InstructionV) (ms : List InstructionV) (t : Prepared) (es : List OutlinedJsxAttribute) (o : Option (List InstructionV)) → Few (a ∷ b ∷ ms) (outcome t es a (b ∷ ms) o .rewrites)
-outcome-few a b ms t es None = no-rewrites (a ∷ b ∷ ms)
-outcome-few a b ms t es (Some loads) = record { few = omega arith; two = λ v l. elim (lists-head l) [ inl e ↦ ap (λ (z : Rewrite). length (z .rows)) e | inr n ↦ lists-none n ] }
+outcome-few : (type : ℕ) (a b : InstructionV) (ms : List InstructionV) (t : Prepared) (es : List OutlinedJsxAttribute) (o : Option (List InstructionV)) → eqb type 0 ≡ false → Few type (a ∷ b ∷ ms) (outcome t es a (b ∷ ms) o .rewrites)
+outcome-few type a b ms t es None n = no-rewrites type (a ∷ b ∷ ms)
+outcome-few type a b ms t es (Some loads) n = record { few = omega arith; two = λ v l. elim (lists-head l) [ inl e ↦ ap (λ (z : Rewrite). length (z .rows)) e | inr q ↦ lists-none q ]; component = λ e. absurd (both-ways (eqb type 0) n e) }
 
-pub close-few : (type : ℕ) (gs ms : List InstructionV) (h : Hir) → Few ms (process-jsx-group type gs ms h .rewrites)
-close-few type gs [] h = no-rewrites []
-close-few type gs (a ∷ []) h = no-rewrites (a ∷ [])
-close-few type gs (a ∷ b ∷ ms) h = close-ways (λ o. Few (a ∷ b ∷ ms) (o .rewrites)) type gs a b ms h (λ _. no-rewrites (a ∷ b ∷ ms)) (λ _ _. no-rewrites (a ∷ b ∷ ms))
-    (λ _ _. let g = collect-props h (a ∷ b ∷ ms) in outcome-few a b ms (prepare (g .hir) (g .entries)) (g .entries) (emit-load-globals gs (tag-places (a ∷ b ∷ ms))))
+pub close-few : (type : ℕ) (gs ms : List InstructionV) (h : Hir) → Few type ms (process-jsx-group type gs ms h .rewrites)
+close-few type gs [] h = no-rewrites type []
+close-few type gs (a ∷ []) h = no-rewrites type (a ∷ [])
+close-few type gs (a ∷ b ∷ ms) h = close-ways (λ o. Few type (a ∷ b ∷ ms) (o .rewrites)) type gs a b ms h (λ _. no-rewrites type (a ∷ b ∷ ms)) (λ _ _. no-rewrites type (a ∷ b ∷ ms))
+    (λ n _. let g = collect-props h (a ∷ b ∷ ms) in outcome-few type a b ms (prepare (g .hir) (g .entries)) (g .entries) (emit-load-globals gs (tag-places (a ∷ b ∷ ms))) n)
 
 -- The principle.
 
@@ -194,8 +195,11 @@ module _ (m : Meaning) (lawful : Lawful m) (n₀ : ℕ) (p : Price) (Ok : List I
     abbrev Reach : List ℕ → List ℕ
     Reach xs = gathered (on-walk d h₀) xs
 
+    abbrev count₀ : ℕ → Counts
+    count₀ g = function-counts (function-at h₀ g)
+
     abbrev reached-counts : List ℕ → Counts
-    reached-counts xs = tally (λ g. function-counts (function-at h₀ g)) (Reach xs)
+    reached-counts xs = tally count₀ (Reach xs)
 
     f-here : In f (on-walk (suc d) h₀ f)
     f-here = in-head f (Reach (inner-of bs₀))
@@ -203,7 +207,7 @@ module _ (m : Meaning) (lawful : Lawful m) (n₀ : ℕ) (p : Price) (Ok : List I
     f-low : f < n₀
     f-low = fine₀ .each f f-here .0
 
-    -- what is still to be outline-jsx-impl is as it was
+    -- what is still to be walked is as it was
     record Clean (s : Hir) (todo : List ℕ) : Type 0 where
       pub distinct : Distinct (Reach todo)
       pub apart : Out f (Reach todo)
@@ -258,6 +262,7 @@ module _ (m : Meaning) (lawful : Lawful m) (n₀ : ℕ) (p : Price) (Ok : List I
         pub jsx : All-elements (w .members)
         pub few : 2 * length (w .rewrites) + length (w .members) ≤ rows-counts back .elements
         pub two : (v : Rewrite) → Lists (w .rewrites) v → length (v .rows) ≡ 2
+        pub component : eqb type 0 ≡ true → w .rewrites ≡ []
         pub clean : Clean (w .hir) (inner todo ++ later)
         pub untouched : (g : ℕ) → Out g (on-walk (suc d) h₀ f) → g < length (h₀ .functions) → function-at (w .hir) g ≡ function-at h₀ g
 
@@ -278,6 +283,7 @@ module _ (m : Meaning) (lawful : Lawful m) (n₀ : ℕ) (p : Price) (Ok : List I
             jsx = λ i l. lists-none l;
             few = omega arith;
             two = λ v l. elim (lists-split (o .rewrites) l) [ inl q ↦ fw .two v q | inr q ↦ n .two v q ];
+            component = λ e. ap₂ (λ (x y : List Rewrite). x ++ y) (fw .component e) (n .component e);
             clean = clean-same (w .hir) (o .hir) (inner todo ++ later) (λ g q. close-keeps type (w .globals) (w .members) (w .hir) g (let l = reach-low g (n .clean .reached g q) in omega arith)) (n .clean);
             untouched = λ g q l. close-keeps type (w .globals) (w .members) (w .hir) g (omega arith) ∙ n .untouched g q l }
 
@@ -285,7 +291,7 @@ module _ (m : Meaning) (lawful : Lawful m) (n₀ : ℕ) (p : Price) (Ok : List I
       later-row w i todo back h n =
           let b = n .few in
           record {
-            growing = n .growing; same-f = n .same-f; loads = n .loads; members = skip (n .members); jsx = n .jsx; few = omega arith; two = n .two;
+            growing = n .growing; same-f = n .same-f; loads = n .loads; members = skip (n .members); jsx = n .jsx; few = omega arith; two = n .two; component = n .component;
             clean = subst (λ (l : List ℕ). Clean (w .hir) (l ++ later)) (pick-false (is-function i) (i .function ∷ inner todo) (inner todo) h) (n .clean);
             untouched = n .untouched }
 
@@ -295,7 +301,7 @@ module _ (m : Meaning) (lawful : Lawful m) (n₀ : ℕ) (p : Price) (Ok : List I
           record {
             growing = q .growing; same-f = q .same-f;
             loads = λ j a. elim (lists-head a) [ inl e ↦ subst Load-ok (sym e) (kept .ok-load rows i ok l g) | inr a′ ↦ n .loads j a′ ];
-            members = q .members; jsx = q .jsx; few = q .few; two = q .two; clean = q .clean; untouched = q .untouched }
+            members = q .members; jsx = q .jsx; few = q .few; two = q .two; component = q .component; clean = q .clean; untouched = q .untouched }
 
       join-inside : (w : Walk) (i : InstructionV) (todo back : List InstructionV) → is-element i ≡ true → Inside w (i ∷ todo) back → Inside (joined w i) todo (i ∷ back)
       join-inside w i todo back h n =
@@ -307,7 +313,7 @@ module _ (m : Meaning) (lawful : Lawful m) (n₀ : ℕ) (p : Price) (Ok : List I
             members = keep (n .members);
             jsx = λ j a. elim (lists-head a) [ inl e′ ↦ subst (λ (z : InstructionV). is-element z ≡ true) (sym e′) h | inr a′ ↦ n .jsx j a′ ];
             few = omega arith;
-            two = q .two; clean = q .clean; untouched = q .untouched }
+            two = q .two; component = q .component; clean = q .clean; untouched = q .untouched }
 
       -- an inner function
       module _ (w : Walk) (i : InstructionV) (todo back : List InstructionV) (h : is-function i ≡ true) (n : Inside w (i ∷ todo) back) where
@@ -354,6 +360,7 @@ module _ (m : Meaning) (lawful : Lawful m) (n₀ : ℕ) (p : Price) (Ok : List I
               jsx = n .jsx;
               few = omega arith;
               two = n .two;
+              component = n .component;
               clean = clean-same (w .hir) (outline-jsx-impl d m (w .hir) x .hir) rest (λ g q. res .untouched g (out g (out-if g mine (λ a′. in-out g (Reach rest) q (distinct-apart g mine (Reach rest) (cl .distinct) a′)))) (let lw = reach-low g (cl .reached g (in-right g mine (Reach rest) q)) in omega arith)) (clean-sub (w .hir) (skip (sub-refl rest)) cl);
               untouched = λ g o l. res .untouched g (out g (out-if g mine (λ a′. in-out g (on-walk (suc d) h₀ f) (or-right (eqb g f) (within g (Reach (inner-of bs₀))) (cl .reached g (in-left g mine (Reach rest) a′))) o))) (omega arith) ∙ n .untouched g o l }
 
@@ -428,3 +435,212 @@ module _ (m : Meaning) (lawful : Lawful m) (n₀ : ℕ) (p : Price) (Ok : List I
           let l = st .2 in
           kept .more (plus (plus u (st .0)) (ahead v todo)) (plus u (ahead w (i ∷ todo))) (omega arith)
             (resum (y + t + going-back p (outline-jsx-impl d m) (takes p d m) type v todo) (y + (t + going-back p (outline-jsx-impl d m) (takes p d m) type v todo)) (omega arith) fin)
+
+      start-inside : (rep : Report) → Inside (start-block c gs rep) (backwards rows) []
+      start-inside rep = record {
+          growing = omega arith; same-f = refl; loads = start .loads; members = sub-none; jsx = λ i l. lists-none l; few = omega arith; two = λ v l. lists-none l; component = λ _. refl;
+          clean = subst (Clean c) (later-split bs k short) (start .clean);
+          untouched = start .untouched }
+
+      -- after the block, less is left of the blocks to come
+      record Passed-block (s : Hir) (gs′ : List InstructionV) : Type 0 where
+        pub between : Between s gs′ (suc k)
+        pub counts : Le (blocks-counts (drop (suc k) (function-at s f .blocks))) (blocks-counts (drop (suc k) bs))
+        pub inside : Sub (inner-of (drop (suc k) (function-at s f .blocks))) later
+
+      module _ (v : Walk) (n : Inside v [] rows) where
+        abbrev hv : Hir
+        hv = v .hir
+
+        idle-block : Passed-block hv (v .globals)
+        idle-block =
+            let a = start .growing in let b = n .growing in
+            record {
+              between = record {
+                growing = omega arith;
+                part = λ j l. subst (λ (g : FunctionV). Sub (block-rows (g .blocks) j) (block-rows bs₀ j)) (sym (n .same-f)) (start .part j (omega arith));
+                len = ap (λ (g : FunctionV). length (g .blocks)) (n .same-f) ∙ start .len;
+                type = ap (λ (g : FunctionV). g .type) (n .same-f) ∙ start .type;
+                loads = n .loads;
+                clean = subst (λ (g : FunctionV). Clean hv (inner-of (drop (suc k) (g .blocks)))) (sym (n .same-f)) (n .clean);
+                untouched = n .untouched };
+              counts = subst (λ (g : FunctionV). Le (blocks-counts (drop (suc k) (g .blocks))) (blocks-counts (drop (suc k) bs))) (sym (n .same-f)) (le-refl (blocks-counts (drop (suc k) bs)));
+              inside = subst (λ (g : FunctionV). Sub (inner-of (drop (suc k) (g .blocks))) later) (sym (n .same-f)) (sub-refl later) }
+
+        abbrev h₁ : Hir
+        h₁ = with-list hv f k (rewritten (v .rewrites) (rows-at hv f k))
+
+        abbrev h₂ : Hir
+        h₂ = eliminated m h₁ f
+
+        abbrev Fn₁ : FunctionV → FunctionV
+        Fn₁ g = with-blocks g (changed (λ b. with-rows b (rewritten (v .rewrites) (rows-at hv f k))) k (g .blocks))
+
+        abbrev Fn₂ : FunctionV → FunctionV
+        Fn₂ g = with-blocks g (listing (g .blocks) (m h₁ f))
+
+        f-short : f < length (hv .functions)
+        f-short = let a = start .growing in let b = n .growing in let l = f-low in omega arith
+
+        at₁ : function-at h₁ f ≡ Fn₁ (function-at hv f)
+        at₁ = at-changed Fn₁ f (hv .functions) no-function f-short
+
+        at₂ : function-at h₂ f ≡ Fn₂ (function-at h₁ f)
+        at₂ = let l = length-changed Fn₁ f (hv .functions) in let s = f-short in at-changed Fn₂ f (h₁ .functions) no-function (omega arith)
+
+        there₂ : (g : ℕ) → (g ≡ f → ⊥) → function-at h₂ g ≡ function-at hv g
+        there₂ g o = at-other Fn₂ f g (h₁ .functions) no-function o ∙ at-other Fn₁ f g (hv .functions) no-function o
+
+        abbrev new-rows : List InstructionV
+        new-rows = rewritten (v .rewrites) (rows-at hv f k)
+
+        thinned : Thinned-all (still-read (listing (function-at h₁ f .blocks) (m h₁ f))) (function-at h₁ f .blocks) (m h₁ f)
+        thinned = lawful h₁ f
+
+        inside₂ : Sub (inner-of (drop (suc k) (function-at h₂ f .blocks))) later
+        inside₂ = subst (λ (g : FunctionV). Sub (inner-of (drop (suc k) (g .blocks))) later) (sym at₂)
+          (subst (λ (l : List ℕ). Sub (inner-of (drop (suc k) (listing (function-at h₁ f .blocks) (m h₁ f)))) l) (ap (λ (g : FunctionV). inner-of (drop (suc k) (g .blocks))) at₁ ∙ later-changed new-rows k (function-at hv f .blocks) ∙ ap (λ (g : FunctionV). inner-of (drop (suc k) (g .blocks))) (n .same-f))
+            (later-thinned (suc k) thinned))
+
+        counts₂ : Le (blocks-counts (drop (suc k) (function-at h₂ f .blocks))) (blocks-counts (drop (suc k) bs))
+        counts₂ = subst (λ (g : FunctionV). Le (blocks-counts (drop (suc k) (g .blocks))) (blocks-counts (drop (suc k) bs))) (sym at₂)
+          (subst (λ (z : Counts). Le (blocks-counts (drop (suc k) (listing (function-at h₁ f .blocks) (m h₁ f)))) z) (ap (λ (g : FunctionV). blocks-counts (drop (suc k) (g .blocks))) at₁ ∙ counts-changed new-rows k (function-at hv f .blocks) ∙ ap (λ (g : FunctionV). blocks-counts (drop (suc k) (g .blocks))) (n .same-f))
+            (counts-thinned (suc k) thinned))
+
+        part₂ : (j : ℕ) → suc k ≤ j → Sub (block-rows (function-at h₂ f .blocks) j) (block-rows bs₀ j)
+        part₂ j l = subst (λ (g : FunctionV). Sub (block-rows (g .blocks) j) (block-rows bs₀ j)) (sym at₂)
+          (sub-trans (thinned-sub (thinned-block (still-read (listing (function-at h₁ f .blocks) (m h₁ f))) thinned j))
+            (subst (λ (z : List InstructionV). Sub z (block-rows bs₀ j)) (sym (ap (λ (g : FunctionV). block-rows (g .blocks) j) at₁ ∙ changed-there new-rows j k (function-at hv f .blocks) (λ e. omega arith) ∙ ap (λ (g : FunctionV). block-rows (g .blocks) j) (n .same-f))) (start .part j (omega arith))))
+
+        changed-block : Passed-block h₂ (v .globals)
+        changed-block =
+            let a = start .growing in let b = n .growing in
+            let l₁ = length-changed Fn₁ f (hv .functions) in let l₂ = length-changed Fn₂ f (h₁ .functions) in
+            record {
+              between = record {
+                growing = omega arith;
+                part = part₂;
+                len = ap (λ (g : FunctionV). length (g .blocks)) at₂ ∙ listing-length (function-at h₁ f .blocks) (m h₁ f) ∙ ap (λ (g : FunctionV). length (g .blocks)) at₁ ∙ length-changed (λ b. with-rows b new-rows) k (function-at hv f .blocks) ∙ ap (λ (g : FunctionV). length (g .blocks)) (n .same-f) ∙ start .len;
+                type = ap (λ (g : FunctionV). g .type) at₂ ∙ ap (λ (g : FunctionV). g .type) at₁ ∙ ap (λ (g : FunctionV). g .type) (n .same-f) ∙ start .type;
+                loads = n .loads;
+                clean = clean-sub h₂ inside₂ (clean-same hv h₂ later (λ g q. there₂ g (λ e. in-out f (Reach later) (subst (λ x. In x (Reach later)) e q) (n .clean .apart))) (n .clean));
+                untouched = λ g o l. there₂ g (λ e. in-out f (on-walk (suc d) h₀ f) f-here (subst (λ z. Out z (on-walk (suc d) h₀ f)) e o)) ∙ n .untouched g o l };
+              counts = counts₂;
+              inside = inside₂ }
+
+        finish : Passed-block (finished m f k v) (v .globals)
+        finish = elim (v .rewrites) as (λ ws. Passed-block (elim ws [ [] ↦ hv | w ∷ rs ↦ h₂ ]) (v .globals)) [ [] ↦ idle-block | w ∷ rs ↦ changed-block ]
+
+        finish-related : (y : ℕ) (u : Counts) → R h₀ hv (v .report) y (plus u (ahead (start-block c gs nothing) (backwards rows)))
+          → R h₀ (finished m f k v) (v .report) (y + relisting p (v .rewrites) (rows-at hv f k)) (plus u (plus (outside-components type (block-counts rows)) (reached-counts (inner (backwards rows)))))
+        finish-related y u q =
+            let same-rows : rows-at hv f k ≡ rows = ap (λ (g : FunctionV). block-rows (g .blocks) k) (n .same-f) in
+            let lb = rows-backwards rows in
+            let none : Le (open-counts (backwards rows) []) (plus (rows-counts rows) (pair (rows-counts rows .elements / 2))) = omega arith in
+            let B : List Rewrite → Type 0 = λ ws. v .rewrites ≡ ws → R h₀ (elim ws [ [] ↦ hv | w ∷ rs ↦ h₂ ]) (v .report) (y + relisting p ws (rows-at hv f k)) (plus u (plus (outside-components type (block-counts rows)) (reached-counts (inner (backwards rows))))) in
+            (elim (v .rewrites) as B [
+              [] ↦ λ e.
+                let lo = outside-le type (open-counts (backwards rows) []) (block-counts rows) (le-trans (open-counts (backwards rows) []) (plus (rows-counts rows) (pair (rows-counts rows .elements / 2))) (block-counts rows) none (block-share rows)) in
+                resum y (y + 0) (omega arith) (kept .more (plus u (ahead (start-block c gs nothing) (backwards rows))) (plus u (plus (outside-components type (block-counts rows)) (reached-counts (inner (backwards rows))))) (omega arith) q)
+            | w ∷ rs ↦ λ e.
+                let yes : eqb type 0 ≡ false = elim (cases-bool (eqb type 0)) [ inl t ↦ (let z : (w ∷ rs) ≡ [] = sym e ∙ n .component t in let o : _≡_ {A = ℕ} 0 1 = cc in absurd (omega arith)) | inr t ↦ t ] in
+                let fw : 2 * length (v .rewrites) + length (v .members) ≤ rows-counts rows .elements = n .few in
+                let fw′ : 2 * length (w ∷ rs) + length (v .members) ≤ rows-counts rows .elements = subst (λ (z : List Rewrite). 2 * length z + length (v .members) ≤ rows-counts rows .elements) e fw in
+                let fw″ : 2 * length (w ∷ rs) ≤ rows-counts rows .elements = omega arith in
+                let a = start .growing in let b = n .growing in
+                let step = kept .relists hv f k w rs f-low (omega arith) (subst Ok (sym same-rows) ok) (λ x l. n .two x (subst (λ (z : List Rewrite). Lists z x) (sym e) l)) (subst (λ (z : List InstructionV). 2 * length (w ∷ rs) ≤ rows-counts z .elements) (sym same-rows) fw″) in
+                let at : (z : Counts) → outside-components type z ≡ z = λ z. pick-false (eqb type 0) no-counts z yes in
+                let l₁ = le-same (outside-components type (open-counts (backwards rows) [])) (open-counts (backwards rows) []) (at (open-counts (backwards rows) [])) in
+                let l₂ = le-same (block-counts rows) (outside-components type (block-counts rows)) (sym (at (block-counts rows))) in
+                let l₃ = block-listed rows (omega arith) in
+                let N = new-list (length (rows-at hv f k) + rows-counts (rows-at hv f k) .elements / 2) in
+                let l₄ : Le N (new-list (length rows + rows-counts rows .elements / 2)) = le-same N (new-list (length rows + rows-counts rows .elements / 2)) (ap (λ (z : List InstructionV). new-list (length z + rows-counts z .elements / 2)) same-rows) in
+                kept .more (plus (plus u (ahead (start-block c gs nothing) (backwards rows))) N) (plus u (plus (outside-components type (block-counts rows)) (reached-counts (inner (backwards rows))))) (omega arith)
+                  (subst (λ (z : Hir). R h₀ z (v .report) (y + p .list (rewritten (w ∷ rs) (rows-at hv f k))) (plus (plus u (ahead (start-block c gs nothing) (backwards rows))) N)) (ap (λ (z : List Rewrite). eliminated m (with-list hv f k (rewritten z (rows-at hv f k))) f) (sym e))
+                    (subst (λ (z : Report). R h₀ (eliminated m (with-list hv f k (rewritten (w ∷ rs) (rows-at hv f k))) f) z (y + p .list (rewritten (w ∷ rs) (rows-at hv f k))) (plus (plus u (ahead (start-block c gs nothing) (backwards rows))) N)) (add-none (v .report)) (kept .then q step))) ]) refl
+
+    -- what the blocks still to be walked may take
+    abbrev to-come : ℕ → Hir → Counts
+    to-come k s = plus (outside-components (function-at h₀ f .type) (blocks-counts (drop k (function-at s f .blocks)))) (reached-counts (inner-of (drop k (function-at s f .blocks))))
+
+    abbrev after-block : Walk → ℕ → Walk
+    after-block w k = walk-back (outline-jsx-impl d m) (function-at (w .hir) f .type) (start-block (w .hir) (w .globals) (w .report)) (backwards (rows-at (w .hir) f k))
+
+    module _ (w : Walk) (k : ℕ) (b : Between (w .hir) (w .globals) k) (s : k < length bs₀) where
+      short : k < length (function-at (w .hir) f .blocks)
+      short = let l = b .len in omega arith
+
+      whole : rows-at (w .hir) f k ≡ backwards (backwards (rows-at (w .hir) f k)) ++ []
+      whole = sym (append-none (backwards (backwards (rows-at (w .hir) f k))) ∙ backwards-twice (rows-at (w .hir) f k))
+
+      begun : Inside (w .hir) (w .globals) k b short (start-block (w .hir) (w .globals) (w .report)) (backwards (rows-at (w .hir) f k)) []
+      begun = start-inside (w .hir) (w .globals) k b short (w .report)
+
+      ended : Inside (w .hir) (w .globals) k b short (after-block w k) [] (rows-at (w .hir) f k)
+      ended = walk-inside (w .hir) (w .globals) k b short (start-block (w .hir) (w .globals) (w .report)) (backwards (rows-at (w .hir) f k)) [] whole begun
+
+      passed-block : Passed-block (w .hir) (w .globals) k b short (finished m f k (after-block w k)) (after-block w k .globals)
+      passed-block = finish (w .hir) (w .globals) k b short (after-block w k) ended
+
+      block-related : (y : ℕ) (u : Counts) → R h₀ (w .hir) (w .report) y u
+        → R h₀ (walk-block m (outline-jsx-impl d m) f k w .hir) (walk-block m (outline-jsx-impl d m) f k w .report) (y + block-takes p (outline-jsx-impl d m) (takes p d m) f k w) (plus u (plus (outside-components (function-at (w .hir) f .type) (block-counts (rows-at (w .hir) f k))) (reached-counts (inner (backwards (rows-at (w .hir) f k))))))
+      block-related y u q =
+          let back = going-back p (outline-jsx-impl d m) (takes p d m) (function-at (w .hir) f .type) (start-block (w .hir) (w .globals) (w .report)) (backwards (rows-at (w .hir) f k)) in
+          let list = relisting p (after-block w k .rewrites) (rows-at (after-block w k .hir) f k) in
+          resum (y + back + list) (y + (back + list)) (omega arith)
+            (finish-related (w .hir) (w .globals) k b short (after-block w k) ended (y + back) u
+              (walk-related (w .hir) (w .globals) k b short (start-block (w .hir) (w .globals) (w .report)) (backwards (rows-at (w .hir) f k)) [] whole begun y u q))
+
+      -- a block's share and what comes after it
+      block-share-of : Le (plus (plus (outside-components (function-at (w .hir) f .type) (block-counts (rows-at (w .hir) f k))) (reached-counts (inner (backwards (rows-at (w .hir) f k))))) (to-come (suc k) (finished m f k (after-block w k)))) (to-come k (w .hir))
+      block-share-of =
+          let bs = function-at (w .hir) f .blocks in
+          let ty = function-at h₀ f .type in
+          let B = block-counts (rows-at (w .hir) f k) in
+          let L = blocks-counts (drop (suc k) bs) in
+          let N = blocks-counts (drop (suc k) (function-at (finished m f k (after-block w k)) f .blocks)) in
+          let e₁ = le-same (outside-components (function-at (w .hir) f .type) B) (outside-components ty B) (ap (λ (z : ℕ). outside-components z B) (b .type)) in
+          let l₁ = outside-two ty B N (blocks-counts (drop k bs)) (let e = le-same (plus B L) (blocks-counts (drop k bs)) (sym (later-counts k bs short)) in let c = passed-block .counts in omega arith) in
+          let mine = inner (backwards (rows-at (w .hir) f k)) in
+          let theirs = inner-of (drop (suc k) bs) in
+          let e₂ = le-same (reached-counts (mine ++ theirs)) (reached-counts (inner-of (drop k bs))) (ap reached-counts (sym (later-split bs k short))) in
+          let e₃ = le-same (tally count₀ (Reach mine ++ Reach theirs)) (reached-counts (mine ++ theirs)) (ap (tally count₀) (sym (gathered-++ (on-walk d h₀) mine theirs))) in
+          let l₂ = tally-++ count₀ (Reach mine) (Reach theirs) .0 in
+          let l₃ = tally-sub count₀ (sub-gathered (on-walk d h₀) (passed-block .inside)) in
+          omega arith
+
+    blocks-between : (n : ℕ) (w : Walk) (k : ℕ) → Between (w .hir) (w .globals) k → k + n ≡ length bs₀ → Between (walk-blocks n m (outline-jsx-impl d m) f k w .hir) (walk-blocks n m (outline-jsx-impl d m) f k w .globals) (k + n)
+    blocks-between zero w k b e = subst (Between (w .hir) (w .globals)) (omega arith) b
+    blocks-between (suc n) w k b e = subst (Between (walk-blocks (suc n) m (outline-jsx-impl d m) f k w .hir) (walk-blocks (suc n) m (outline-jsx-impl d m) f k w .globals)) (omega arith) (blocks-between n (walk-block m (outline-jsx-impl d m) f k w) (suc k) (passed-block w k b (omega arith) .between) (omega arith))
+
+    blocks-related : (n : ℕ) (w : Walk) (k : ℕ) → Between (w .hir) (w .globals) k → k + n ≡ length bs₀ → (y : ℕ) (u : Counts) → R h₀ (w .hir) (w .report) y u
+      → R h₀ (walk-blocks n m (outline-jsx-impl d m) f k w .hir) (walk-blocks n m (outline-jsx-impl d m) f k w .report) (y + blocks-take n p m (outline-jsx-impl d m) (takes p d m) f k w) (plus u (to-come k (w .hir)))
+    blocks-related zero w k b e y u q = resum y (y + 0) (omega arith) (kept .more u (plus u (to-come k (w .hir))) (omega arith) q)
+    blocks-related (suc n) w k b e y u q =
+        let s : k < length bs₀ = omega arith in
+        let v = walk-block m (outline-jsx-impl d m) f k w in
+        let t = block-takes p (outline-jsx-impl d m) (takes p d m) f k w in
+        let r = blocks-take n p m (outline-jsx-impl d m) (takes p d m) f (suc k) v in
+        let c = plus (outside-components (function-at (w .hir) f .type) (block-counts (rows-at (w .hir) f k))) (reached-counts (inner (backwards (rows-at (w .hir) f k)))) in
+        let l = block-share-of w k b s in
+        kept .more (plus (plus u c) (to-come (suc k) (v .hir))) (plus u (to-come k (w .hir))) (omega arith)
+          (resum (y + t + r) (y + (t + r)) (omega arith) (blocks-related n v (suc k) (passed-block w k b s .between) (omega arith) (y + t) (plus u c) (block-related w k b s y u q)))
+
+    first-between : Between h₀ [] 0
+    first-between = record {
+        growing = omega arith; part = λ j l. sub-refl (block-rows bs₀ j); len = refl; type = refl; loads = λ i l. lists-none l;
+        clean = record { distinct = fine₀ .distinct .1; apart = fine₀ .distinct .0; same = λ g q. refl; reached = λ g q. q };
+        untouched = λ g o l. refl }
+
+    walk-result : Result (suc d) h₀ f
+    walk-result =
+        let b = blocks-between (length bs₀) (start-block h₀ [] nothing) 0 first-between (omega arith) in
+        let t = blocks-take (length bs₀) p m (outline-jsx-impl d m) (takes p d m) f 0 (start-block h₀ [] nothing) in
+        record {
+          related = kept .more (plus no-counts (to-come 0 h₀)) (walk-counts (suc d) h₀ f) (omega arith) (resum (0 + t) t (omega arith) (blocks-related (length bs₀) (start-block h₀ [] nothing) 0 first-between (omega arith) 0 no-counts (kept .same h₀)));
+          growing = b .growing;
+          untouched = b .untouched }
+
+  pub walk-kept : (d : ℕ) (h : Hir) (x : ℕ) → n₀ ≤ length (h .functions) → Fine d h x → Result d h x
+  walk-kept zero h x big fine = record { related = kept .same h; growing = omega arith; untouched = λ g o l. refl }
+  walk-kept (suc d) h x big fine = walk-result d (walk-kept d) h x big fine
