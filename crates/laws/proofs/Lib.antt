@@ -4,3 +4,5 @@ pub mod Groups
 pub mod Staying
 pub mod Counting
 pub mod Walks
+pub mod Reports
+pub mod Outside

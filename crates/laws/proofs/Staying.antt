@@ -15,7 +15,7 @@ use Rattle.rules.specs.Names.{temporary, tag-name, known, next-tag, free-tag, b
 use Rattle.rules.specs.Props.{no-identifier, promote, fresh}
 use Rattle.rules.specs.Emit.{take-tag, outline-function, Report, process-jsx-group}
 use Rattle.rules.specs.Eliminations.{Meaning}
-use Rattle.rules.specs.Outline.{outline-jsx-impl}
+use Rattle.rules.specs.Outline.{outline-jsx-impl, depth}
 use Rattle.rules.proofs.Steps.{pick-true, pick-false}
 use Rattle.rules.proofs.Gathers.{length-changed}
 use Rattle.rules.proofs.Stores.{at-changed, at-other}
@@ -38,13 +38,13 @@ identifier-then i j k p q = record {
             inl d ↦ inr (sym d ∙ e .0, e .1 ∙ ap (λ (n : ℕ). promoted (temporary n)) (p .declaration))
           | inr d ↦ (let z : _≡_ {A = ℕ} 0 1 = cc in absurd (omega arith)) ] ] }
 
-onward-refl : (h : Hir) → Onward h h
+pub onward-refl : (h : Hir) → Onward h h
 onward-refl h = record {
     identifiers = omega arith; identifier = λ x l. identifier-refl (identifier-at h x); fresh = λ x a b. absurd (omega arith);
     functions = omega arith; function = λ f l. function-refl (function-at h f);
     text = ([], sym (append-nil (h .text))); used-rows = omega arith; counter = omega arith; mark = omega arith }
 
-onward-then : (a b c : Hir) → Onward a b → Onward b c → Onward a c
+pub onward-then : (a b c : Hir) → Onward a b → Onward b c → Onward a c
 onward-then a b c p q =
     let i = p .identifiers in let j = q .identifiers in
     let f = p .functions in let g = q .functions in
@@ -129,7 +129,7 @@ appends-onward h f tag =
       function = λ g s. subst (λ (z : FunctionV). Same-function (function-at h g) z) (sym (getD-append-left (h .functions) (f ∷ []) no-function g s)) (function-refl (function-at h g));
       text = ([], sym (append-nil (h .text))); used-rows = omega arith; counter = omega arith; mark = omega arith }
 
-relists-onward : (h : Hir) (f : ℕ) (Fn : FunctionV → FunctionV) → ((g : FunctionV) → Same-function g (Fn g)) → Onward h (with-functions h (changed Fn f (h .functions)))
+pub relists-onward : (h : Hir) (f : ℕ) (Fn : FunctionV → FunctionV) → ((g : FunctionV) → Same-function g (Fn g)) → Onward h (with-functions h (changed Fn f (h .functions)))
 relists-onward h f Fn q =
     let l = length-changed Fn f (h .functions) in
     record {
@@ -144,8 +144,8 @@ relists-onward h f Fn q =
 pub close-onward : (type : ℕ) (gs ms : List InstructionV) (h : Hir) → Onward h (process-jsx-group type gs ms h .hir)
 close-onward = close-on Onward onward-refl onward-then writes-onward promotes-onward tags-onward freshens-onward appends-onward
 
-pub outlines-go-onward : Every-outline-goes-onward
-outlines-go-onward = walked-on (λ a b r. Onward a b) onward-refl (λ a b c r s. onward-then a b c) close-onward relists-onward
+pub walk-onward : (d : ℕ) (m : Meaning) (h : Hir) (f : ℕ) → Onward h (outline-jsx-impl d m h f .hir)
+walk-onward = walked-on (λ a b r. Onward a b) onward-refl (λ a b c r s. onward-then a b c) close-onward relists-onward
 
 -- a group appends functions at most
 abbrev Longer : Hir → Hir → Type 0
@@ -162,3 +162,6 @@ pub close-keeps : (type : ℕ) (gs ms : List InstructionV) (h : Hir) (g : ℕ) �
 close-keeps type gs ms h g l =
     let q = close-longer type gs ms h in
     ap (λ (z : List FunctionV). getD z g no-function) (q .1) ∙ getD-append-left (h .functions) (q .0) no-function g l
+
+pub outlines-go-onward : Every-outline-goes-onward
+outlines-go-onward = walk-onward depth

@@ -1,15 +1,21 @@
 -- The ways through one step of the rules, each with what its tests said.
 use Prim.Native.Nat.{ℕ, zero, suc, _+_, _<_, _≤_}
-use mathlib.Core.Path.{_≡_, refl}
+use mathlib.Core.Path.{_≡_, refl, sym, ap, ap₂, _∙_, subst}
+use mathlib.Core.Logic.{_⊎_, inl, inr}
 use mathlib.Core.Bool.{Bool, true, false, _&&_, not}
 use mathlib.Core.List.{List, [], _∷_, _++_}
 use lib.ListN.{length, getD}
 use lib.Dec.{eqb}
-use Rattle.rules.specs.Lists.{within, changed}
+use Rattle.std.specs.declared.option.Option.{Option}
+use Rattle.std.specs.declared.option.Option.the-variants.{Some, None}
+use Rattle.std.proofs.shelf.Tests.{cases-bool}
+use Rattle.rules.proofs.Steps.{pick-true, pick-false}
+use Rattle.rules.proofs.Basics.{lists-head}
+use Rattle.rules.specs.Lists.{within, changed, Lists, here, there}
 use Rattle.rules.specs.Views.{Bytes, PlaceV, InstructionV, NameV, absent, named, promoted, IdentifierV, Hir, role-is, is-global, is-function, is-element, with-identifiers, write}
 use Rattle.rules.specs.Names.{temporary}
 use Rattle.rules.specs.Props.{OutlinedJsxAttribute, Gathering, no-identifier, promote, enter-attribute, enter-child, end, gather-place, collect-props, fresh, is-key-entry, Bound, put, Mapping, bind-entries}
-use Rattle.rules.specs.Emit.{Outcome, done, emit, process-jsx-group, add}
+use Rattle.rules.specs.Emit.{find-global, emit-load-globals, tag-places, Prepared, prepare, outcome, Outcome, done, emit, process-jsx-group, add}
 use Rattle.rules.specs.Outline.{Walk, children, process-and-outline-jsx, joined, passed}
 use Rattle.laws.specs.Allowances.{Price, closing, passing}
 
@@ -122,3 +128,29 @@ passing-ways P p inner inside type w i a b c d e =
         | false ↦ λ y. (elim (is-element i) as (λ t. is-element i ≡ t → P (at-element t) (by-element t)) [
               true ↦ λ z. (elim child as (λ t. child ≡ t → P (at-child t) (by-child t)) [ true ↦ c x y z | false ↦ d x y z ]) refl
             | false ↦ e x y ]) refl ]) refl ]) refl
+
+-- the load of an identifier is one of the globals
+find-ways : (gs : List InstructionV) (x : ℕ) → (find-global gs x ≡ None) ⊎ ((g : InstructionV) × (find-global gs x ≡ Some g) × Lists gs g)
+find-ways [] x = inl refl
+find-ways (g ∷ gs) x = elim (cases-bool (eqb (g .result .identifier) x)) [
+    inl e ↦ inr (g, pick-true (eqb (g .result .identifier) x) (Some g) (find-global gs x) e, here)
+  | inr e ↦ (let p = pick-false (eqb (g .result .identifier) x) (Some g) (find-global gs x) e in elim (find-ways gs x) [ inl q ↦ inl (p ∙ q) | inr q ↦ inr (q .0, p ∙ q .1, there (q .2)) ]) ]
+
+load-ways : (gs : List InstructionV) (ps : List PlaceV) → (emit-load-globals gs ps ≡ None) ⊎ ((ls : List InstructionV) × (emit-load-globals gs ps ≡ Some ls) × (length ls ≡ length ps) × ((i : InstructionV) → Lists ls i → Lists gs i))
+load-ways gs [] = inr ([], refl, refl, λ i l. elim l [ ])
+load-ways gs (p ∷ ps) =
+    let with-rest : Option InstructionV → Option (List InstructionV) → Option (List InstructionV) = λ o t. elim o [ None ↦ None | Some g ↦ elim t [ None ↦ None | Some ls ↦ Some (g ∷ ls) ] ] in
+    elim (find-ways gs (p .identifier)) [
+      inl e ↦ inl (ap (λ (o : Option InstructionV). with-rest o (emit-load-globals gs ps)) e)
+    | inr q ↦ elim (load-ways gs ps) [
+        inl e ↦ inl (ap₂ with-rest (q .1) e)
+      | inr t ↦ inr (q .0 ∷ t .0, ap₂ with-rest (q .1) (t .1), ap suc (t .2), λ i l. elim (lists-head l) [ inl s ↦ subst (λ z. Lists gs z) (sym s) (q .2) | inr k ↦ t .3 i k ]) ] ]
+
+-- a tag load for each tag place, all of them globals; or the tag is abandoned
+pub emit-ways : (P : Outcome → Type 0) (gs : List InstructionV) (m : InstructionV) (ms : List InstructionV) (h : Hir) (es : List OutlinedJsxAttribute)
+  → P (outcome (prepare h es) es m ms None)
+  → ((ls : List InstructionV) → length ls ≡ length (tag-places (m ∷ ms)) → ((i : InstructionV) → Lists ls i → Lists gs i) → P (outcome (prepare h es) es m ms (Some ls)))
+  → P (emit gs m ms h es)
+emit-ways P gs m ms h es a b = elim (load-ways gs (tag-places (m ∷ ms))) [
+    inl e ↦ subst (λ (o : Option (List InstructionV)). P (outcome (prepare h es) es m ms o)) (sym e) a
+  | inr q ↦ subst (λ (o : Option (List InstructionV)). P (outcome (prepare h es) es m ms o)) (sym (q .1)) (b (q .0) (q .2) (q .3)) ]

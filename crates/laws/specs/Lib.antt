@@ -1,2 +1,3 @@
 pub mod Staying
 pub mod Allowances
+pub mod Reports

@@ -2,7 +2,7 @@
 use Prim.Native.Nat.{ℕ, zero, suc, _+_, _<_, _≤_}
 use mathlib.Core.Path.{_≡_}
 use mathlib.Core.Logic.{_⊎_}
-use mathlib.Core.Bool.{false}
+use mathlib.Core.Bool.{true, false}
 use mathlib.Core.List.{List, [], _∷_, _++_}
 use lib.ListN.{length, getD}
 use Rattle.rules.specs.Lists.{within}
@@ -49,12 +49,12 @@ pub record Onward (h h′ : Hir) : Type 0 where
   pub mark : h .mark ≤ h′ .mark
 
 abbrev pub Every-outline-goes-onward : Type 0
-Every-outline-goes-onward = (d : ℕ) (m : Meaning) (h : Hir) (f : ℕ) → Onward h (outline-jsx-impl d m h f .hir)
+Every-outline-goes-onward = (m : Meaning) (h : Hir) (f : ℕ) → Onward h (outline-jsx m h f .hir)
 
 -- Under a lawful elimination, a function that an accepted call does not walk is as it was; all that were appended earlier are such.
 pub record Outside-stays (h : Hir) (f : ℕ) (h′ : Hir) : Type 0 where
   pub outside : (g : ℕ) → g < length (h .functions) → within g (on-walk depth h f) ≡ false → function-at h′ g ≡ function-at h g
-  pub appended : (g : ℕ) → g < length (h .functions) → (function-at h g .appended ≡ false → ⊥) → function-at h′ g ≡ function-at h g
+  pub appended : (g : ℕ) → g < length (h .functions) → function-at h g .appended ≡ true → function-at h′ g ≡ function-at h g
 
 abbrev pub What-is-outside-stays : Type 0
 What-is-outside-stays = (m : Meaning) → Lawful m → (h : Hir) (f : ℕ) → Accepts h f → Outside-stays h f (outline-jsx m h f .hir)
