@@ -1,10 +1,10 @@
 -- Eliminations, by what they leave; their laws; keep and sweep.
 use Prim.Native.Nat.{ℕ, zero, suc}
 use mathlib.Core.Path.{_≡_}
-use mathlib.Core.Bool.{Bool, true, false, _||_}
+use mathlib.Core.Bool.{Bool, false, _||_}
 use mathlib.Core.List.{List, [], _∷_, _++_, map}
 use lib.ListN.{length}
-use Rattle.rules.specs.Lists.{select, any, gathered, within, changed}
+use Rattle.rules.specs.Lists.{Sublist, select, any, gathered, within, changed}
 use Rattle.rules.specs.Views.{InstructionV, BlockV, FunctionV, Hir, identifiers-of, reads, writes, rows-of, still-read, acting, function-at, with-functions, with-rows, with-blocks}
 
 -- An elimination's meaning: the lists that it leaves to the blocks of a function.
@@ -71,3 +71,11 @@ abbrev pub sweep : Meaning
 sweep h f =
     let bs : List BlockV = function-at h f .blocks in
     map (select (kept (needed (suc (length (rows-of bs))) bs []))) (lists bs)
+
+-- of all lawful eliminations it leaves the fewest rows: each of its lists is a part of the other's
+pub data Sublists : List (List InstructionV) → List (List InstructionV) → Type 0 where
+  no-list : Sublists [] []
+  list : {is js : List InstructionV} {ls ms : List (List InstructionV)} → Sublist is js → Sublists ls ms → Sublists (is ∷ ls) (js ∷ ms)
+
+abbrev pub Least : Meaning → Type 0
+Least s = (m : Meaning) → Lawful m → (h : Hir) (f : ℕ) → Sublists (s h f) (m h f)

@@ -44,3 +44,9 @@ changed f (suc i) (x ∷ xs) = x ∷ changed f i xs
 pub data Lists {A : Type 0} : List A → A → Type 0 where
   here : {i : A} {is : List A} → Lists (i ∷ is) i
   there : {i j : A} {is : List A} → Lists is i → Lists (j ∷ is) i
+
+-- the first list is the second without some of its elements
+pub data Sublist {A : Type 0} : List A → List A → Type 0 where
+  ends : Sublist [] []
+  keeps : {x : A} {xs ys : List A} → Sublist xs ys → Sublist (x ∷ xs) (x ∷ ys)
+  skips : {y : A} {xs ys : List A} → Sublist xs ys → Sublist xs (y ∷ ys)

@@ -1,11 +1,11 @@
 -- Gathering the props of a group of nested JSX rows, and the fresh places that they are bound to.
-use Prim.Native.Nat.{ℕ, zero, suc}
+use Prim.Native.Nat.{ℕ}
 use mathlib.Core.Bool.{Bool, true, false, _&&_, not}
 use mathlib.Core.List.{List, [], _∷_, _++_}
 use lib.ListN.{length, getD}
 use lib.Dec.{eqb}
 use Rattle.std.specs.declared.option.Option.{Option}
-use Rattle.std.specs.declared.option.Option.the-variants.{Some, None}
+use Rattle.std.specs.declared.option.Option.the-variants.{None}
 use Rattle.rules.specs.Lists.{gathered, within, changed}
 use Rattle.rules.specs.Views.{Bytes, PlaceV, InstructionV, NameV, absent, named, promoted, IdentifierV, Hir, role-is, results, with-identifiers, write}
 use Rattle.rules.specs.Names.{same-bytes, spell, is-key, t-name, temporary, Made, generate-name}
