@@ -8,10 +8,9 @@ use mathlib.Core.List.{List, [], _∷_, _++_}
 use lib.ListN.{length, length-append}
 use lib.Dec.{eqb, leb}
 use Rattle.std.proofs.shelf.Tests.{cases-bool, leb-true, leb-false}
-use Rattle.rules.specs.Lists.{backwards, Lists, here, there}
+use Rattle.rules.specs.Lists.{Sublist, ends, keeps, skips, backwards, Lists, here, there}
 use Rattle.rules.specs.Views.{InstructionV, is-element}
 use Rattle.rules.proofs.Steps.{pick-true, pick-false}
-use Rattle.rules.proofs.Subs.{Sub, sub-none, keep, skip}
 use Rattle.laws.specs.Allowances.{Counts, no-counts, plus, element-counts, row-counts, rows-counts, halved, block-counts, outside-components, tally}
 
 pub record Le (a b : Counts) : Type 0 where
@@ -61,16 +60,16 @@ rows-backwards (i ∷ is) =
     let q = rows-backwards is in
     omega arith
 
-pub sub-length : {A : Type 0} (xs ys : List A) → Sub xs ys → length xs ≤ length ys
+pub sub-length : {A : Type 0} (xs ys : List A) → Sublist xs ys → length xs ≤ length ys
 sub-length [] ys s = omega arith
 sub-length (x ∷ xs) [] s = elim s [ ]
-sub-length (x ∷ xs) (y ∷ ys) (keep s) = let q = sub-length xs ys s in omega arith
-sub-length (x ∷ xs) (y ∷ ys) (skip s) = let q = sub-length (x ∷ xs) ys s in omega arith
+sub-length (x ∷ xs) (y ∷ ys) (keeps s) = let q = sub-length xs ys s in omega arith
+sub-length (x ∷ xs) (y ∷ ys) (skips s) = let q = sub-length (x ∷ xs) ys s in omega arith
 
-pub rows-sub : {is js : List InstructionV} → Sub is js → Le (rows-counts is) (rows-counts js)
-rows-sub sub-none = le-refl no-counts
-rows-sub (keep {x = i} {xs = is} {ys = js} s) = le-plus (row-counts i) (row-counts i) (rows-counts is) (rows-counts js) (le-refl (row-counts i)) (rows-sub s)
-rows-sub (skip {y = i} {xs = is} {ys = js} s) = let q = rows-sub s in omega arith
+pub rows-sub : {is js : List InstructionV} → Sublist is js → Le (rows-counts is) (rows-counts js)
+rows-sub ends = le-refl no-counts
+rows-sub (keeps {x = i} {xs = is} {ys = js} s) = le-plus (row-counts i) (row-counts i) (rows-counts is) (rows-counts js) (le-refl (row-counts i)) (rows-sub s)
+rows-sub (skips {y = i} {xs = is} {ys = js} s) = let q = rows-sub s in omega arith
 
 halved-le : (e f n k : ℕ) → e ≤ f → n ≤ k → Le (halved e n) (halved f k)
 halved-le e f n k p q = elim (cases-bool (leb 2 e)) [
@@ -82,7 +81,7 @@ halved-le e f n k p q = elim (cases-bool (leb 2 e)) [
       | inr b ↦ (let z = leb-false 2 f b in absurd (omega arith)) ]
   | inr a ↦ (let x = pick-false (leb 2 e) (n + e / 2) 0 a in omega arith) ]
 
-pub block-sub : (is js : List InstructionV) → Sub is js → Le (block-counts is) (block-counts js)
+pub block-sub : (is js : List InstructionV) → Sublist is js → Le (block-counts is) (block-counts js)
 block-sub is js s =
     let q = rows-sub s in
     le-plus (rows-counts is) (rows-counts js) (halved (rows-counts is .elements) (length is)) (halved (rows-counts js .elements) (length js)) q
@@ -115,7 +114,7 @@ pub tally-++ : (c : ℕ → Counts) (xs ys : List ℕ) → Le (plus (tally c xs)
 tally-++ c [] ys = (omega arith, omega arith)
 tally-++ c (x ∷ xs) ys = let q = tally-++ c xs ys in let a = q .0 in let b = q .1 in (omega arith, omega arith)
 
-pub tally-sub : (c : ℕ → Counts) {xs ys : List ℕ} → Sub xs ys → Le (tally c xs) (tally c ys)
-tally-sub c sub-none = le-refl no-counts
-tally-sub c (keep {x = x} {xs = xs} {ys = ys} s) = le-plus (c x) (c x) (tally c xs) (tally c ys) (le-refl (c x)) (tally-sub c s)
-tally-sub c (skip {y = y} {xs = xs} {ys = ys} s) = let q = tally-sub c s in omega arith
+pub tally-sub : (c : ℕ → Counts) {xs ys : List ℕ} → Sublist xs ys → Le (tally c xs) (tally c ys)
+tally-sub c ends = le-refl no-counts
+tally-sub c (keeps {x = x} {xs = xs} {ys = ys} s) = le-plus (c x) (c x) (tally c xs) (tally c ys) (le-refl (c x)) (tally-sub c s)
+tally-sub c (skips {y = y} {xs = xs} {ys = ys} s) = let q = tally-sub c s in omega arith

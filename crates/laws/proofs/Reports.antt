@@ -16,9 +16,9 @@ use Rattle.rules.specs.Emit.{bound-place, emit-destructure-props, emit-updated-
 use Rattle.rules.specs.Eliminations.{Meaning, Lawful, listing}
 use Rattle.rules.specs.Outline.{rewritten, outline-jsx-impl, outline-jsx, depth}
 use Rattle.rules.specs.Drawn.{Accepts, on-walk}
-use Rattle.rules.proofs.Basics.{lists-none, lists-head, lists-split}
+use Rattle.rules.proofs.Membership.{lists-none, lists-head, lists-split}
+use Rattle.rules.proofs.Positions.{length-changed}
 use Rattle.rules.proofs.Steps.{pick-false}
-use Rattle.rules.proofs.Gathers.{length-changed}
 use Rattle.laws.specs.Staying.{Onward, Same-function}
 use Rattle.laws.specs.Reports.{is-destructure, properties-of, properties-in, Counted, Every-report-counts, Every-property-counted}
 use Rattle.laws.specs.Allowances.{Counts, no-counts, plus, Price}

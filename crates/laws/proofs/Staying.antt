@@ -16,9 +16,8 @@ use Rattle.rules.specs.Props.{no-identifier, promote, fresh}
 use Rattle.rules.specs.Emit.{take-tag, outline-function, Report, process-jsx-group}
 use Rattle.rules.specs.Eliminations.{Meaning}
 use Rattle.rules.specs.Outline.{outline-jsx-impl, depth}
+use Rattle.rules.proofs.Positions.{length-changed, at-changed, at-other}
 use Rattle.rules.proofs.Steps.{pick-true, pick-false}
-use Rattle.rules.proofs.Gathers.{length-changed}
-use Rattle.rules.proofs.Stores.{at-changed, at-other}
 use Rattle.laws.specs.Staying.{Same-function, identifier-at, Same-identifier, Onward, Every-outline-goes-onward}
 use Rattle.laws.proofs.Onward.{function-refl, function-then, walked-on}
 use Rattle.laws.proofs.Ways.{promoting, promote-ways}

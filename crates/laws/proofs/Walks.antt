@@ -10,54 +10,24 @@ use lib.Dec.{eqb}
 use Rattle.std.specs.declared.option.Option.{Option}
 use Rattle.std.specs.declared.option.Option.the-variants.{Some, None}
 use Rattle.std.proofs.shelf.Tests.{or-cases, or-right, both-ways, eqb-true, cases-bool, cases-eq}
-use Rattle.rules.specs.Lists.{within, gathered, changed, backwards, Lists, here, there, Distinct}
+use Rattle.rules.specs.Lists.{Sublist, ends, keeps, skips, within, gathered, changed, backwards, Lists, here, there, Distinct}
 use Rattle.rules.specs.Views.{still-read, InstructionV, BlockV, FunctionV, Hir, is-element, is-global, is-function, function-at, no-function, block-rows, rows-at, with-rows, with-blocks, with-functions, with-list}
 use Rattle.rules.specs.Props.{OutlinedJsxAttribute, collect-props}
 use Rattle.rules.specs.Emit.{Rewrite, Outcome, Report, nothing, add, done, Prepared, prepare, outcome, emit, emit-load-globals, tag-places, process-jsx-group}
 use Rattle.rules.specs.Eliminations.{listing, Meaning, Lawful, Thinned-all, no-block, block, eliminated}
 use Rattle.rules.specs.Outline.{Walk, rewritten, children, process-and-outline-jsx, joined, passed, walk-back, start-block, finished, walk-block, walk-blocks, outline-jsx-impl}
 use Rattle.rules.specs.Drawn.{inner, inner-of, on-walk}
-use Rattle.rules.proofs.Basics.{In, Out, in-out, in-left, in-right, in-head, out-parts, distinct-left, distinct-right, distinct-apart, gathered-++, lists-none, lists-head, lists-left, lists-right, lists-split}
+use Rattle.rules.proofs.Blocks.{changed-there, listing-length, later-changed, later-thinned, later-split}
+use Rattle.rules.proofs.Reached.{same-walk}
+use Rattle.rules.proofs.Membership.{out-if, In, Out, in-out, in-left, in-right, in-head, out-parts, distinct-left, distinct-right, distinct-apart, gathered-++, lists-none, lists-head, lists-left, lists-right, lists-split}
+use Rattle.rules.proofs.Positions.{backwards-twice, length-changed, at-changed, at-other}
 use Rattle.rules.proofs.Steps.{pick-true, pick-false}
-use Rattle.rules.proofs.Gathers.{length-changed}
-use Rattle.rules.proofs.Stores.{at-changed, at-other}
-use Rattle.rules.proofs.Elimination.{thinned-block}
-use Rattle.rules.proofs.Subs.{Sub, sub-none, keep, skip, sub-refl, sub-empty, sub-front, sub-lists, sub-in, sub-out, sub-distinct, sub-gathered, append-none, thinned-sub}
-use Rattle.rules.proofs.Blocks.{sub-trans, changed-there, listing-length, later-changed, later-thinned, later-split}
+use Rattle.rules.proofs.Sublists.{sub-refl, sub-empty, sub-front, sub-lists, sub-in, sub-out, sub-distinct, sub-gathered, append-none, thinned-sub, sub-trans}
+use Rattle.rules.proofs.Thinning.{thinned-block}
 use Rattle.laws.specs.Allowances.{Counts, no-counts, plus, row-counts, rows-counts, block-counts, blocks-counts, outside-components, function-counts, tally, walk-counts, Price, closing, passing, going-back, relisting, block-takes, blocks-take, takes}
 use Rattle.laws.proofs.Staying.{close-onward, close-keeps}
 use Rattle.laws.proofs.Ways.{close-ways, with-load, with-outcome, passed-ways, passing-ways}
 use Rattle.laws.proofs.Counting.{Le, le-refl, le-same, le-trans, le-plus, le-none, pair, new-list, row-yes, rows-sub, rows-backwards, block-sub, block-share, block-listed, outside-le, outside-two, tally-++, tally-sub}
-
-backwards-++ : {A : Type 0} (xs : List A) (y : A) → backwards (xs ++ (y ∷ [])) ≡ y ∷ backwards xs
-backwards-++ [] y = refl
-backwards-++ (x ∷ xs) y = ap (λ l. l ++ (x ∷ [])) (backwards-++ xs y)
-
-backwards-twice : {A : Type 0} (xs : List A) → backwards (backwards xs) ≡ xs
-backwards-twice [] = refl
-backwards-twice (x ∷ xs) = backwards-++ (backwards xs) x ∙ ap (λ l. x ∷ l) (backwards-twice xs)
-
--- what is reached rests on the functions that are reached
-gathered-same : {A : Type 0} (a b : ℕ → List A) (ys : List ℕ) → ((y : ℕ) → In y ys → a y ≡ b y) → gathered a ys ≡ gathered b ys
-gathered-same a b [] h = refl
-gathered-same a b (y ∷ ys) h = ap₂ (λ l n. l ++ n) (h y (in-head y ys)) (gathered-same a b ys (λ z q. h z (or-right (eqb z y) (within z ys) q)))
-
-in-gather : (a : ℕ → List ℕ) (x y : ℕ) (ys : List ℕ) → In y ys → In x (a y) → In x (gathered a ys)
-in-gather a x y [] h k = absurd (both-ways false refl h)
-in-gather a x y (z ∷ ys) h k = elim (or-cases (eqb y z) (within y ys) h) [
-    inl e ↦ in-left x (a z) (gathered a ys) (subst (λ n. In x (a n)) (eqb-true y z e) k)
-  | inr e ↦ in-right x (a z) (gathered a ys) (in-gather a x y ys e k) ]
-
-same-walk : (h s : Hir) (d x : ℕ) → ((g : ℕ) → In g (on-walk d h x) → function-at s g ≡ function-at h g) → on-walk d s x ≡ on-walk d h x
-same-walk h s zero x q = refl
-same-walk h s (suc d) x q =
-    let here′ : function-at s x ≡ function-at h x = q x (in-head x (gathered (on-walk d h) (inner-of (function-at h x .blocks)))) in
-    let ys = inner-of (function-at h x .blocks) in
-    ap (λ (g : FunctionV). x ∷ gathered (on-walk d s) (inner-of (g .blocks))) here′
-    ∙ ap (λ (l : List ℕ). x ∷ l) (gathered-same (on-walk d s) (on-walk d h) ys (λ y i. same-walk h s d y (λ g k. q g (or-right (eqb g x) (within g (gathered (on-walk d h) ys)) (in-gather (on-walk d h) g y ys i k)))))
-
-out-if : (x : ℕ) (xs : List ℕ) → (In x xs → ⊥) → Out x xs
-out-if x xs n = elim (cases-bool (within x xs)) [ inl e ↦ absurd (n e) | inr e ↦ e ]
 
 tally-same : (a b : ℕ → Counts) (xs : List ℕ) → ((x : ℕ) → In x xs → a x ≡ b x) → tally a xs ≡ tally b xs
 tally-same a b [] h = refl
@@ -134,7 +104,7 @@ close-few type gs (a ∷ b ∷ ms) h = close-ways (λ o. Few type (a ∷ b ∷ m
 -- A relation between the stores before and after, with the report, what was taken of one table, and the counts that pay for it:
 -- it goes from step to step, and holds of each group of two or more and of each new list.
 pub record Kept (m : Meaning) (n₀ : ℕ) (p : Price) (Ok : List InstructionV → Type 0) (Load-ok : InstructionV → Type 0) (R : Hir → Hir → Report → ℕ → Counts → Type 0) : Type 0 where
-  pub ok-sub : {xs ys : List InstructionV} → Sub xs ys → Ok ys → Ok xs
+  pub ok-sub : {xs ys : List InstructionV} → Sublist xs ys → Ok ys → Ok xs
   pub ok-load : (rows : List InstructionV) (i : InstructionV) → Ok rows → Lists rows i → is-global i ≡ true → Load-ok i
   pub same : (h : Hir) → R h h nothing 0 no-counts
   pub then : {a b c : Hir} {r s : Report} {x y : ℕ} {u v : Counts} → R a b r x u → R b c s y v → R a c (add r s) (x + y) (plus u v)
@@ -214,7 +184,7 @@ module _ (m : Meaning) (lawful : Lawful m) (n₀ : ℕ) (p : Price) (Ok : List I
       pub same : (g : ℕ) → In g (Reach todo) → function-at s g ≡ function-at h₀ g
       pub reached : (g : ℕ) → In g (Reach todo) → In g (Reach (inner-of bs₀))
 
-    clean-sub : (s : Hir) {xs ys : List ℕ} → Sub xs ys → Clean s ys → Clean s xs
+    clean-sub : (s : Hir) {xs ys : List ℕ} → Sublist xs ys → Clean s ys → Clean s xs
     clean-sub s b c = record {
         distinct = sub-distinct (sub-gathered (on-walk d h₀) b) (c .distinct);
         apart = sub-out f (sub-gathered (on-walk d h₀) b) (c .apart);
@@ -230,7 +200,7 @@ module _ (m : Meaning) (lawful : Lawful m) (n₀ : ℕ) (p : Price) (Ok : List I
     -- between blocks
     record Between (s : Hir) (gs : List InstructionV) (k : ℕ) : Type 0 where
       pub growing : length (h₀ .functions) ≤ length (s .functions)
-      pub part : (j : ℕ) → k ≤ j → Sub (block-rows (function-at s f .blocks) j) (block-rows bs₀ j)
+      pub part : (j : ℕ) → k ≤ j → Sublist (block-rows (function-at s f .blocks) j) (block-rows bs₀ j)
       pub len : length (function-at s f .blocks) ≡ length bs₀
       pub type : function-at s f .type ≡ function-at h₀ f .type
       pub loads : (i : InstructionV) → Lists gs i → Load-ok i
@@ -258,7 +228,7 @@ module _ (m : Meaning) (lawful : Lawful m) (n₀ : ℕ) (p : Price) (Ok : List I
         pub growing : length (c .functions) ≤ length (w .hir .functions)
         pub same-f : function-at (w .hir) f ≡ function-at c f
         pub loads : (i : InstructionV) → Lists (w .globals) i → Load-ok i
-        pub members : Sub (w .members) back
+        pub members : Sublist (w .members) back
         pub jsx : All-elements (w .members)
         pub few : 2 * length (w .rewrites) + length (w .members) ≤ rows-counts back .elements
         pub two : (v : Rewrite) → Lists (w .rewrites) v → length (v .rows) ≡ 2
@@ -291,7 +261,7 @@ module _ (m : Meaning) (lawful : Lawful m) (n₀ : ℕ) (p : Price) (Ok : List I
       later-row w i todo back h n =
           let b = n .few in
           record {
-            growing = n .growing; same-f = n .same-f; loads = n .loads; members = skip (n .members); jsx = n .jsx; few = omega arith; two = n .two; component = n .component;
+            growing = n .growing; same-f = n .same-f; loads = n .loads; members = skips (n .members); jsx = n .jsx; few = omega arith; two = n .two; component = n .component;
             clean = subst (λ (l : List ℕ). Clean (w .hir) (l ++ later)) (pick-false (is-function i) (i .function ∷ inner todo) (inner todo) h) (n .clean);
             untouched = n .untouched }
 
@@ -310,7 +280,7 @@ module _ (m : Meaning) (lawful : Lawful m) (n₀ : ℕ) (p : Price) (Ok : List I
           let e = one i h in
           record {
             growing = q .growing; same-f = q .same-f; loads = q .loads;
-            members = keep (n .members);
+            members = keeps (n .members);
             jsx = λ j a. elim (lists-head a) [ inl e′ ↦ subst (λ (z : InstructionV). is-element z ≡ true) (sym e′) h | inr a′ ↦ n .jsx j a′ ];
             few = omega arith;
             two = q .two; component = q .component; clean = q .clean; untouched = q .untouched }
@@ -356,12 +326,12 @@ module _ (m : Meaning) (lawful : Lawful m) (n₀ : ℕ) (p : Price) (Ok : List I
               growing = omega arith;
               same-f = res .untouched f (out f (out-parts f mine (Reach rest) (cl .apart) .0)) (omega arith) ∙ n .same-f;
               loads = n .loads;
-              members = skip (n .members);
+              members = skips (n .members);
               jsx = n .jsx;
               few = omega arith;
               two = n .two;
               component = n .component;
-              clean = clean-same (w .hir) (outline-jsx-impl d m (w .hir) x .hir) rest (λ g q. res .untouched g (out g (out-if g mine (λ a′. in-out g (Reach rest) q (distinct-apart g mine (Reach rest) (cl .distinct) a′)))) (let lw = reach-low g (cl .reached g (in-right g mine (Reach rest) q)) in omega arith)) (clean-sub (w .hir) (skip (sub-refl rest)) cl);
+              clean = clean-same (w .hir) (outline-jsx-impl d m (w .hir) x .hir) rest (λ g q. res .untouched g (out g (out-if g mine (λ a′. in-out g (Reach rest) q (distinct-apart g mine (Reach rest) (cl .distinct) a′)))) (let lw = reach-low g (cl .reached g (in-right g mine (Reach rest) q)) in omega arith)) (clean-sub (w .hir) (skips (sub-refl rest)) cl);
               untouched = λ g o l. res .untouched g (out g (out-if g mine (λ a′. in-out g (on-walk (suc d) h₀ f) (or-right (eqb g f) (within g (Reach (inner-of bs₀))) (cl .reached g (in-left g mine (Reach rest) a′))) o))) (omega arith) ∙ n .untouched g o l }
 
       pass-inside : (w : Walk) (i : InstructionV) (todo back : List InstructionV) → Lists rows i → Inside w (i ∷ todo) back → Inside (passed (outline-jsx-impl d m) type w i) todo (i ∷ back)
@@ -376,7 +346,7 @@ module _ (m : Meaning) (lawful : Lawful m) (n₀ : ℕ) (p : Price) (Ok : List I
       abbrev ahead : Walk → List InstructionV → Counts
       ahead w todo = plus (outside-components type (open-counts todo (w .members))) (reached-counts (inner todo))
 
-      ok-members : (w : Walk) (todo back : List InstructionV) → Sub back rows → Inside w todo back → Ok (w .members)
+      ok-members : (w : Walk) (todo back : List InstructionV) → Sublist back rows → Inside w todo back → Ok (w .members)
       ok-members w todo back s n = kept .ok-sub (sub-trans (n .members) s) ok
 
       abbrev Step : Walk → InstructionV → List InstructionV → ℕ → Counts → Walk → ℕ → Type 0
@@ -392,7 +362,7 @@ module _ (m : Meaning) (lawful : Lawful m) (n₀ : ℕ) (p : Price) (Ok : List I
           let lr = le-same (reached-counts (inner todo)) (reached-counts (inner (i ∷ todo))) (sym (reach-later i todo h)) in
           (no-counts, subst (λ (z : Hir). R h₀ z (v .report) (y + 0) (plus u no-counts)) (sym e) (subst (λ (z : Report). R h₀ (w .hir) z (y + 0) (plus u no-counts)) (sym e′) (still y u q)), omega arith)
 
-      pass-step : (w : Walk) (i : InstructionV) (todo back : List InstructionV) → Sub back rows → Inside w (i ∷ todo) back → (y : ℕ) (u : Counts) → R h₀ (w .hir) (w .report) y u
+      pass-step : (w : Walk) (i : InstructionV) (todo back : List InstructionV) → Sublist back rows → Inside w (i ∷ todo) back → (y : ℕ) (u : Counts) → R h₀ (w .hir) (w .report) y u
         → Step w i todo y u (passed (outline-jsx-impl d m) type w i) (passing p (takes p d m) type w i)
       pass-step w i todo back s n y u q = passing-ways (Step w i todo y u) p (outline-jsx-impl d m) (takes p d m) type w i
           (λ g. quiet w (with-load w i) i todo y u refl refl (ap (λ (z : ℕ). eqb z 31) (eqb-true (i .kind) 29 g)) (omega arith) q)
@@ -421,13 +391,13 @@ module _ (m : Meaning) (lawful : Lawful m) (n₀ : ℕ) (p : Price) (Ok : List I
         → R h₀ (walk-back (outline-jsx-impl d m) type w todo .hir) (walk-back (outline-jsx-impl d m) type w todo .report) (y + going-back p (outline-jsx-impl d m) (takes p d m) type w todo) (plus u (ahead w todo))
       walk-related w [] back eq n y u q =
           let ms = w .members in
-          let s : Sub back rows = subst (λ (z : List InstructionV). Sub back z) (sym eq) (sub-refl back) in
+          let s : Sublist back rows = subst (λ (z : List InstructionV). Sublist back z) (sym eq) (sub-refl back) in
           let lo = outside-le type (closing-counts ms) (open-counts [] ms) (open-last ms (n .jsx)) in
           kept .more (plus u (outside-components type (closing-counts ms))) (plus u (ahead w [])) (omega arith)
             (kept .then q (close-related type (w .globals) ms (w .hir) (n .loads) (n .jsx) (ok-members w [] back s n)))
       walk-related w (i ∷ todo) back eq n y u q =
           let eq′ : rows ≡ backwards todo ++ (i ∷ back) = eq ∙ append-assoc (backwards todo) (i ∷ []) back in
-          let s : Sub back rows = subst (λ (z : List InstructionV). Sub back z) (sym eq′) (sub-front (backwards todo) (skip (sub-refl back))) in
+          let s : Sublist back rows = subst (λ (z : List InstructionV). Sublist back z) (sym eq′) (sub-front (backwards todo) (skips (sub-refl back))) in
           let v = passed (outline-jsx-impl d m) type w i in
           let t = passing p (takes p d m) type w i in
           let st = pass-step w i todo back s n y u q in
@@ -438,7 +408,7 @@ module _ (m : Meaning) (lawful : Lawful m) (n₀ : ℕ) (p : Price) (Ok : List I
 
       start-inside : (rep : Report) → Inside (start-block c gs rep) (backwards rows) []
       start-inside rep = record {
-          growing = omega arith; same-f = refl; loads = start .loads; members = sub-none; jsx = λ i l. lists-none l; few = omega arith; two = λ v l. lists-none l; component = λ _. refl;
+          growing = omega arith; same-f = refl; loads = start .loads; members = ends; jsx = λ i l. lists-none l; few = omega arith; two = λ v l. lists-none l; component = λ _. refl;
           clean = subst (Clean c) (later-split bs k short) (start .clean);
           untouched = start .untouched }
 
@@ -446,7 +416,7 @@ module _ (m : Meaning) (lawful : Lawful m) (n₀ : ℕ) (p : Price) (Ok : List I
       record Passed-block (s : Hir) (gs′ : List InstructionV) : Type 0 where
         pub between : Between s gs′ (suc k)
         pub counts : Le (blocks-counts (drop (suc k) (function-at s f .blocks))) (blocks-counts (drop (suc k) bs))
-        pub inside : Sub (inner-of (drop (suc k) (function-at s f .blocks))) later
+        pub inside : Sublist (inner-of (drop (suc k) (function-at s f .blocks))) later
 
       module _ (v : Walk) (n : Inside v [] rows) where
         abbrev hv : Hir
@@ -458,14 +428,14 @@ module _ (m : Meaning) (lawful : Lawful m) (n₀ : ℕ) (p : Price) (Ok : List I
             record {
               between = record {
                 growing = omega arith;
-                part = λ j l. subst (λ (g : FunctionV). Sub (block-rows (g .blocks) j) (block-rows bs₀ j)) (sym (n .same-f)) (start .part j (omega arith));
+                part = λ j l. subst (λ (g : FunctionV). Sublist (block-rows (g .blocks) j) (block-rows bs₀ j)) (sym (n .same-f)) (start .part j (omega arith));
                 len = ap (λ (g : FunctionV). length (g .blocks)) (n .same-f) ∙ start .len;
                 type = ap (λ (g : FunctionV). g .type) (n .same-f) ∙ start .type;
                 loads = n .loads;
                 clean = subst (λ (g : FunctionV). Clean hv (inner-of (drop (suc k) (g .blocks)))) (sym (n .same-f)) (n .clean);
                 untouched = n .untouched };
               counts = subst (λ (g : FunctionV). Le (blocks-counts (drop (suc k) (g .blocks))) (blocks-counts (drop (suc k) bs))) (sym (n .same-f)) (le-refl (blocks-counts (drop (suc k) bs)));
-              inside = subst (λ (g : FunctionV). Sub (inner-of (drop (suc k) (g .blocks))) later) (sym (n .same-f)) (sub-refl later) }
+              inside = subst (λ (g : FunctionV). Sublist (inner-of (drop (suc k) (g .blocks))) later) (sym (n .same-f)) (sub-refl later) }
 
         abbrev h₁ : Hir
         h₁ = with-list hv f k (rewritten (v .rewrites) (rows-at hv f k))
@@ -497,9 +467,9 @@ module _ (m : Meaning) (lawful : Lawful m) (n₀ : ℕ) (p : Price) (Ok : List I
         thinned : Thinned-all (still-read (listing (function-at h₁ f .blocks) (m h₁ f))) (function-at h₁ f .blocks) (m h₁ f)
         thinned = lawful h₁ f
 
-        inside₂ : Sub (inner-of (drop (suc k) (function-at h₂ f .blocks))) later
-        inside₂ = subst (λ (g : FunctionV). Sub (inner-of (drop (suc k) (g .blocks))) later) (sym at₂)
-          (subst (λ (l : List ℕ). Sub (inner-of (drop (suc k) (listing (function-at h₁ f .blocks) (m h₁ f)))) l) (ap (λ (g : FunctionV). inner-of (drop (suc k) (g .blocks))) at₁ ∙ later-changed new-rows k (function-at hv f .blocks) ∙ ap (λ (g : FunctionV). inner-of (drop (suc k) (g .blocks))) (n .same-f))
+        inside₂ : Sublist (inner-of (drop (suc k) (function-at h₂ f .blocks))) later
+        inside₂ = subst (λ (g : FunctionV). Sublist (inner-of (drop (suc k) (g .blocks))) later) (sym at₂)
+          (subst (λ (l : List ℕ). Sublist (inner-of (drop (suc k) (listing (function-at h₁ f .blocks) (m h₁ f)))) l) (ap (λ (g : FunctionV). inner-of (drop (suc k) (g .blocks))) at₁ ∙ later-changed new-rows k (function-at hv f .blocks) ∙ ap (λ (g : FunctionV). inner-of (drop (suc k) (g .blocks))) (n .same-f))
             (later-thinned (suc k) thinned))
 
         counts₂ : Le (blocks-counts (drop (suc k) (function-at h₂ f .blocks))) (blocks-counts (drop (suc k) bs))
@@ -507,10 +477,10 @@ module _ (m : Meaning) (lawful : Lawful m) (n₀ : ℕ) (p : Price) (Ok : List I
           (subst (λ (z : Counts). Le (blocks-counts (drop (suc k) (listing (function-at h₁ f .blocks) (m h₁ f)))) z) (ap (λ (g : FunctionV). blocks-counts (drop (suc k) (g .blocks))) at₁ ∙ counts-changed new-rows k (function-at hv f .blocks) ∙ ap (λ (g : FunctionV). blocks-counts (drop (suc k) (g .blocks))) (n .same-f))
             (counts-thinned (suc k) thinned))
 
-        part₂ : (j : ℕ) → suc k ≤ j → Sub (block-rows (function-at h₂ f .blocks) j) (block-rows bs₀ j)
-        part₂ j l = subst (λ (g : FunctionV). Sub (block-rows (g .blocks) j) (block-rows bs₀ j)) (sym at₂)
+        part₂ : (j : ℕ) → suc k ≤ j → Sublist (block-rows (function-at h₂ f .blocks) j) (block-rows bs₀ j)
+        part₂ j l = subst (λ (g : FunctionV). Sublist (block-rows (g .blocks) j) (block-rows bs₀ j)) (sym at₂)
           (sub-trans (thinned-sub (thinned-block (still-read (listing (function-at h₁ f .blocks) (m h₁ f))) thinned j))
-            (subst (λ (z : List InstructionV). Sub z (block-rows bs₀ j)) (sym (ap (λ (g : FunctionV). block-rows (g .blocks) j) at₁ ∙ changed-there new-rows j k (function-at hv f .blocks) (λ e. omega arith) ∙ ap (λ (g : FunctionV). block-rows (g .blocks) j) (n .same-f))) (start .part j (omega arith))))
+            (subst (λ (z : List InstructionV). Sublist z (block-rows bs₀ j)) (sym (ap (λ (g : FunctionV). block-rows (g .blocks) j) at₁ ∙ changed-there new-rows j k (function-at hv f .blocks) (λ e. omega arith) ∙ ap (λ (g : FunctionV). block-rows (g .blocks) j) (n .same-f))) (start .part j (omega arith))))
 
         changed-block : Passed-block h₂ (v .globals)
         changed-block =

@@ -9,8 +9,8 @@ use lib.Dec.{eqb}
 use Rattle.std.specs.declared.option.Option.{Option}
 use Rattle.std.specs.declared.option.Option.the-variants.{Some, None}
 use Rattle.std.proofs.shelf.Tests.{cases-bool}
+use Rattle.rules.proofs.Membership.{lists-head}
 use Rattle.rules.proofs.Steps.{pick-true, pick-false}
-use Rattle.rules.proofs.Basics.{lists-head}
 use Rattle.rules.specs.Lists.{within, changed, Lists, here, there}
 use Rattle.rules.specs.Views.{Bytes, PlaceV, InstructionV, NameV, absent, named, promoted, IdentifierV, Hir, role-is, is-global, is-function, is-element, with-identifiers, write}
 use Rattle.rules.specs.Names.{temporary}
