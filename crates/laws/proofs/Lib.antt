@@ -6,3 +6,4 @@ pub mod Counting
 pub mod Walks
 pub mod Reports
 pub mod Outside
+pub mod Costs

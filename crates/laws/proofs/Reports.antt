@@ -37,7 +37,7 @@ pub record Quiet (a b : Hir) : Type 0 where
   pub counter : b .counter ≡ a .counter
   pub mark : b .mark ≡ a .mark
 
-quiet-refl : (h : Hir) → Quiet h h
+pub quiet-refl : (h : Hir) → Quiet h h
 quiet-refl h = record { functions = refl; bears = refl; used-rows = refl; counter = refl; mark = refl }
 
 quiet-then : (a b c : Hir) → Quiet a b → Quiet b c → Quiet a c

@@ -5,13 +5,13 @@ use mathlib.Core.Bool.{Bool, true, false}
 use mathlib.Core.List.{List, [], _∷_, _++_}
 use lib.ListN.{length}
 use lib.Dec.{eqb, leb}
-use Rattle.rules.specs.Lists.{select, gathered, backwards, within}
+use Rattle.rules.specs.Lists.{select, gathered, backwards, within, Lists}
 use Rattle.rules.specs.Views.{Bytes, PlaceV, InstructionV, BlockV, FunctionV, Hir, role-is, is-element, is-global, is-function, function-rows, function-at, rows-at}
 use Rattle.rules.specs.Names.{spell}
 use Rattle.rules.specs.Emit.{Rewrite, Outcome, nothing, process-jsx-group}
-use Rattle.rules.specs.Eliminations.{Meaning}
-use Rattle.rules.specs.Outline.{Walk, children, passed, walk-back, rewritten, start-block, walk-block, outline-jsx-impl}
-use Rattle.rules.specs.Drawn.{on-walk}
+use Rattle.rules.specs.Eliminations.{Meaning, Lawful}
+use Rattle.rules.specs.Outline.{Walk, children, passed, walk-back, rewritten, start-block, walk-block, outline-jsx-impl, outline-jsx, depth}
+use Rattle.rules.specs.Drawn.{on-walk, Accepts}
 
 -- What is counted: attributes, children, elements, the elements of each block halved, the rows of new lists, and the bytes of attribute names.
 pub record Counts : Type 0 where
@@ -151,11 +151,7 @@ abbrev pub terminal-places : List BlockV → ℕ
 terminal-places [] = 0
 terminal-places (b ∷ bs) = length (b .places) + terminal-places bs
 
--- instructions: the rows of the function, and those that stand in the root's place
-abbrev pub group-instructions : Hir → Outcome → ℕ
-group-instructions h o = elim (o .rewrites) [ [] ↦ 0 | r ∷ rs ↦ length (function-rows (appended-by h o)) + length (r .rows) ]
-
--- places: those of these rows, the parameters, and the terminal's
+-- places: those of the function's rows, its terminal and its parameters, and of the rows that stand in the root's place
 abbrev pub group-places : Hir → Outcome → ℕ
 group-places h o = elim (o .rewrites) [ [] ↦ 0 | r ∷ rs ↦ places-of (function-rows (appended-by h o)) + terminal-places (appended-by h o .blocks) + length (appended-by h o .params) + length (appended-by h o .context) + places-of (r .rows) ]
 
@@ -163,11 +159,38 @@ group-places h o = elim (o .rewrites) [ [] ↦ 0 | r ∷ rs ↦ places-of (funct
 abbrev pub group-numbers : Hir → Outcome → ℕ
 group-numbers h o = elim (o .rewrites) [ [] ↦ 0 | r ∷ rs ↦ length (function-rows (appended-by h o)) ]
 
-abbrev pub instructions : Price
-instructions = record { group = group-instructions; list = λ rows. 0 }
-
 abbrev pub places : Price
 places = record { group = group-places; list = λ rows. 0 }
 
 abbrev pub numbers : Price
 numbers = record { group = group-numbers; list = λ rows. length rows }
+
+-- The form of rows that the counts rest on.
+
+-- an element has one tag place at most, and no places but tag, attributes, spreads and children; a load has none
+pub record Formed (i : InstructionV) : Type 0 where
+  pub tag : is-element i ≡ true → length (select (role-is 1) (i .places)) ≤ 1
+  pub roles : is-element i ≡ true → length (i .places) ≤ length (select (role-is 1) (i .places)) + length (select (role-is 2) (i .places)) + length (select (role-is 3) (i .places)) + length (select (role-is 4) (i .places))
+  pub load : is-global i ≡ true → i .places ≡ []
+
+-- every row that a function on the walk lists has that form
+abbrev pub Walk-formed : ℕ → Hir → ℕ → Type 0
+Walk-formed d h f = (g : ℕ) → within g (on-walk d h f) ≡ true → (i : InstructionV) → Lists (function-rows (function-at h g)) i → Formed i
+
+-- how many blocks the functions have
+abbrev pub blocks-in : List FunctionV → ℕ
+blocks-in [] = 0
+blocks-in (f ∷ fs) = length (f .blocks) + blocks-in fs
+
+-- What an outline takes, after and before, is within the allowances of the walk's counts.
+pub record Within-allowances (m : Meaning) (h : Hir) (f : ℕ) : Type 0 where
+  pub identifiers : length (outline-jsx m h f .hir .identifiers) ≤ length (h .identifiers) + identifiers-allowed (walk-counts depth h f)
+  pub instructions : outline-jsx m h f .hir .used-rows ≤ h .used-rows + instructions-allowed (walk-counts depth h f)
+  pub numbers : takes numbers depth m h f ≤ numbers-allowed (walk-counts depth h f)
+  pub places : takes places depth m h f ≤ places-allowed (walk-counts depth h f)
+  pub blocks : blocks-in (outline-jsx m h f .hir .functions) ≤ blocks-in (h .functions) + blocks-allowed (walk-counts depth h f)
+  pub functions : length (outline-jsx m h f .hir .functions) ≤ length (h .functions) + functions-allowed (walk-counts depth h f)
+
+-- whatever the lawful elimination
+abbrev pub Allowances-suffice : Type 0
+Allowances-suffice = (m : Meaning) → Lawful m → (h : Hir) (f : ℕ) → Accepts h f → Walk-formed depth h f → Within-allowances m h f
