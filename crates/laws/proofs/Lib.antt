@@ -7,3 +7,4 @@ pub mod Walks
 pub mod Reports
 pub mod Outside
 pub mod Costs
+pub mod Allowances
