@@ -8,3 +8,4 @@ pub mod Reports
 pub mod Outside
 pub mod Costs
 pub mod Allowances
+pub mod Marks

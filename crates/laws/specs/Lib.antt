@@ -1,3 +1,4 @@
 pub mod Staying
 pub mod Allowances
 pub mod Reports
+pub mod Ceilings
