@@ -9,3 +9,4 @@ pub mod Outside
 pub mod Costs
 pub mod Allowances
 pub mod Marks
+pub mod Texts
