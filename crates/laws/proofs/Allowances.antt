@@ -104,14 +104,14 @@ pub record Shown (a b : Hir) (c : Counts) : Type 0 where
   pub blocks : blocks-in (b .functions) ≤ blocks-in (a .functions) + blocks-allowed c
   pub functions : length (b .functions) ≤ length (a .functions) + functions-allowed c
 
-abbrev Ok : List InstructionV → Type 0
-Ok rows = All-formed rows × Distinct (gathered writes rows)
+abbrev Ok : ℕ → List InstructionV → Type 0
+Ok type rows = All-formed rows × Distinct (gathered writes rows)
 
-abbrev Load-ok : InstructionV → Type 0
-Load-ok i = i .places ≡ []
+abbrev Load-ok : ℕ → InstructionV → Type 0
+Load-ok type i = i .places ≡ []
 
-ok-part : (xs ys : List InstructionV) → Sublist xs ys → Ok ys → Ok xs
-ok-part xs ys s o = ((λ i l. o .0 i (sub-lists s l)), sub-distinct (sub-gathered writes s) (o .1))
+ok-part : (type : ℕ) (xs ys : List InstructionV) → Sublist xs ys → Ok type ys → Ok type xs
+ok-part type xs ys s o = ((λ i l. o .0 i (sub-lists s l)), sub-distinct (sub-gathered writes s) (o .1))
 
 blocks-changed : (Fn : FunctionV → FunctionV) → ((g : FunctionV) → length (Fn g .blocks) ≡ length (g .blocks)) → (f : ℕ) (fs : List FunctionV) → blocks-in (changed Fn f fs) ≡ blocks-in fs
 blocks-changed Fn e zero [] = refl
@@ -124,8 +124,8 @@ free = record { group = λ h o. 0; list = λ rows. 0 }
 
 shown-kept : (m : Meaning) (n₀ : ℕ) → Kept m n₀ free Ok Load-ok (λ a b r s c. Shown a b c)
 shown-kept m n₀ = record {
-    ok-sub = λ {xs} {ys} s o. ok-part xs ys s o;
-    ok-load = λ rows i o l g. o .0 i l .load g;
+    ok-sub = λ {type} {xs} {ys} s o. ok-part type xs ys s o;
+    ok-load = λ type rows i o l g. o .0 i l .load g;
     same = λ h. record { identifiers = omega arith; instructions = omega arith; blocks = omega arith; functions = omega arith };
     then = λ p q. (let a = p .identifiers in let b = q .identifiers in let c = p .instructions in let d = q .instructions in let e = p .blocks in let f = q .blocks in let g = p .functions in let h = q .functions in record { identifiers = omega arith; instructions = omega arith; blocks = omega arith; functions = omega arith });
     more = λ u v l p. (let a = p .identifiers in let c = p .instructions in let e = p .blocks in let g = p .functions in let l₁ = l .attributes in let l₂ = l .children in let l₃ = l .elements in let l₄ = l .pairs in record { identifiers = omega arith; instructions = omega arith; blocks = omega arith; functions = omega arith });
@@ -134,7 +134,7 @@ shown-kept m n₀ = record {
       let q = group-cost type gs a b ms h l j (o .0) in
       let i = q .identifiers in let u = q .used-rows in let bl = q .blocks in let f = q .functions in
       record { identifiers = omega arith; instructions = omega arith; blocks = omega arith; functions = omega arith };
-    relists = λ h f k w ws low big o two many.
+    relists = λ h f k w ws low big type yes o two many.
       let rows = rewritten (w ∷ ws) (rows-at h f k) in
       let h₁ = with-list h f k rows in
       let Fn₁ : FunctionV → FunctionV = λ g. with-blocks g (changed (λ b. with-rows b rows) k (g .blocks)) in
@@ -149,34 +149,34 @@ shown-kept m n₀ = record {
 
 numbers-kept : (m : Meaning) (n₀ : ℕ) → Kept m n₀ numbers Ok Load-ok (λ a b r s c. s ≤ numbers-allowed c)
 numbers-kept m n₀ = record {
-    ok-sub = λ {xs} {ys} s o. ok-part xs ys s o;
-    ok-load = λ rows i o l g. o .0 i l .load g;
+    ok-sub = λ {type} {xs} {ys} s o. ok-part type xs ys s o;
+    ok-load = λ type rows i o l g. o .0 i l .load g;
     same = λ h. omega arith;
     then = λ p q. omega arith;
     more = λ u v l p. (let l₃ = l .elements in let l₄ = l .pairs in let l₅ = l .listed in omega arith);
     idle = λ h. refl;
     closes = λ type gs a b ms h t l j o. (let q = group-cost type gs a b ms h l j (o .0) .numbers in omega arith);
-    relists = λ h f k w ws low big o two many. (let q = rewritten-length (w ∷ ws) (rows-at h f k) two (o .1) in omega arith) }
+    relists = λ h f k w ws low big type yes o two many. (let q = rewritten-length (w ∷ ws) (rows-at h f k) two (o .1) in omega arith) }
 
 places-kept : (m : Meaning) (n₀ : ℕ) → Kept m n₀ places Ok Load-ok (λ a b r s c. s ≤ places-allowed c)
 places-kept m n₀ = record {
-    ok-sub = λ {xs} {ys} s o. ok-part xs ys s o;
-    ok-load = λ rows i o l g. o .0 i l .load g;
+    ok-sub = λ {type} {xs} {ys} s o. ok-part type xs ys s o;
+    ok-load = λ type rows i o l g. o .0 i l .load g;
     same = λ h. omega arith;
     then = λ p q. omega arith;
     more = λ u v l p. (let l₁ = l .attributes in let l₂ = l .children in let l₃ = l .elements in let l₄ = l .pairs in omega arith);
     idle = λ h. refl;
     closes = λ type gs a b ms h t l j o. (let q = group-cost type gs a b ms h l j (o .0) .places in omega arith);
-    relists = λ h f k w ws low big o two many. omega arith }
+    relists = λ h f k w ws low big type yes o two many. omega arith }
 
 -- an accepted walk of rows of that form
-ok-walk : (h : Hir) (f : ℕ) → Accepts h f → Walk-formed depth h f → (g : ℕ) → In g (on-walk depth h f) → (j : ℕ) → Ok (block-rows (function-at h g .blocks) j)
+ok-walk : (h : Hir) (f : ℕ) → Accepts h f → Walk-formed depth h f → (g : ℕ) → In g (on-walk depth h f) → (j : ℕ) → Ok (function-at h g .type) (block-rows (function-at h g .blocks) j)
 ok-walk h f a w g i j = ((λ x l. w g i x (block-lists (function-at h g .blocks) j l)), block-distinct (function-at h g .blocks) j (a .sound g i .once))
 
 pub allowances-suffice : Allowances-suffice
 allowances-suffice m lawful h f a w =
     let n₀ = length (h .functions) in
-    let each : (g : ℕ) → In g (on-walk depth h f) → (g < n₀) × ((j : ℕ) → Ok (block-rows (function-at h g .blocks) j)) = λ g i. (a .used g i, ok-walk h f a w g i) in
+    let each : (g : ℕ) → In g (on-walk depth h f) → (g < n₀) × ((j : ℕ) → Ok (function-at h g .type) (block-rows (function-at h g .blocks) j)) = λ g i. (a .used g i, ok-walk h f a w g i) in
     let s = walk-kept m lawful n₀ free Ok Load-ok (λ a b r s c. Shown a b c) (shown-kept m n₀) depth h f (omega arith) (record { distinct = a .once; each = each }) .related in
     let n = walk-kept m lawful n₀ numbers Ok Load-ok (λ a b r s c. s ≤ numbers-allowed c) (numbers-kept m n₀) depth h f (omega arith) (record { distinct = a .once; each = each }) .related in
     let p = walk-kept m lawful n₀ places Ok Load-ok (λ a b r s c. s ≤ places-allowed c) (places-kept m n₀) depth h f (omega arith) (record { distinct = a .once; each = each }) .related in

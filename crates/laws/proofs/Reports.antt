@@ -191,10 +191,10 @@ module _ (n₀ : ℕ) where
   abbrev free : Price
   free = record { group = λ h o. 0; list = λ rows. 0 }
 
-  bound-kept : (m : Meaning) → Kept m n₀ free (λ rows. Unit) (λ i. is-global i ≡ true) Bound-by
+  bound-kept : (m : Meaning) → Kept m n₀ free (λ type rows. Unit) (λ type i. is-global i ≡ true) Bound-by
   bound-kept m = record {
       ok-sub = λ s o. tt;
-      ok-load = λ rows i o l g. g;
+      ok-load = λ type rows i o l g. g;
       same = λ h. bound-same h h refl;
       then = λ p q l. (let x = p l in let y = q (x .0) in let a = x .1 in let b = y .1 in (y .0, omega arith));
       more = λ u v l p. p;
@@ -203,7 +203,7 @@ module _ (n₀ : ℕ) where
           (λ _. bound-same h h refl)
           (λ _ _. bound-same h (collect-props h (a ∷ b ∷ ms) .hir) (collect-quiet h (a ∷ b ∷ ms) .functions))
           (λ _ _. let g = collect-props h (a ∷ b ∷ ms) in emit-bound gs a (b ∷ ms) h (g .hir) (g .entries) l j (collect-quiet h (a ∷ b ∷ ms) .functions));
-      relists = λ h f k w ws low big o two many l.
+      relists = λ h f k w ws low big type yes o two many l.
         let rows = rewritten (w ∷ ws) (rows-at h f k) in
         let h₁ = with-list h f k rows in
         let Fn₁ : FunctionV → FunctionV = λ g. with-blocks g (changed (λ b. with-rows b rows) k (g .blocks)) in
@@ -220,8 +220,8 @@ drop-all (f ∷ fs) = drop-all fs
 pub every-property-counted : Every-property-counted
 every-property-counted m lawful h f a =
     let n₀ = length (h .functions) in
-    let fine : Fine m lawful n₀ (free n₀) (λ rows. Unit) (λ i. is-global i ≡ true) (Bound-by n₀) (bound-kept n₀ m) depth h f = record { distinct = a .once; each = λ g q. (a .used g q, λ j. tt) } in
-    let r = walk-kept m lawful n₀ (free n₀) (λ rows. Unit) (λ i. is-global i ≡ true) (Bound-by n₀) (bound-kept n₀ m) depth h f (omega arith) fine .related (omega arith) in
+    let fine : Fine m lawful n₀ (free n₀) (λ type rows. Unit) (λ type i. is-global i ≡ true) (Bound-by n₀) (bound-kept n₀ m) depth h f = record { distinct = a .once; each = λ g q. (a .used g q, λ j. tt) } in
+    let r = walk-kept m lawful n₀ (free n₀) (λ type rows. Unit) (λ type i. is-global i ≡ true) (Bound-by n₀) (bound-kept n₀ m) depth h f (omega arith) fine .related (omega arith) in
     let z = drop-all (h .functions) in
     let e = r .1 in
     omega arith

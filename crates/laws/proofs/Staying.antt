@@ -93,7 +93,7 @@ promotes-onward h x =
           (λ y s t. absurd (omega arith))) (writes-onward (with-identifiers h is) (temporary (i .declaration))))
       (onward-refl h)
 
-freshens-onward : (h : Hir) (n : NameV) → Onward h (fresh h n)
+pub freshens-onward : (h : Hir) (n : NameV) → Onward h (fresh h n)
 freshens-onward h n =
     let new : IdentifierV = record { declaration = length (h .identifiers); name = n } in
     let l = length-append (h .identifiers) (new ∷ []) in

@@ -103,17 +103,17 @@ close-few type gs (a ∷ b ∷ ms) h = close-ways (λ o. Few type (a ∷ b ∷ m
 
 -- A relation between the stores before and after, with the report, what was taken of one table, and the counts that pay for it:
 -- it goes from step to step, and holds of each group of two or more and of each new list.
-pub record Kept (m : Meaning) (n₀ : ℕ) (p : Price) (Ok : List InstructionV → Type 0) (Load-ok : InstructionV → Type 0) (R : Hir → Hir → Report → ℕ → Counts → Type 0) : Type 0 where
-  pub ok-sub : {xs ys : List InstructionV} → Sublist xs ys → Ok ys → Ok xs
-  pub ok-load : (rows : List InstructionV) (i : InstructionV) → Ok rows → Lists rows i → is-global i ≡ true → Load-ok i
+pub record Kept (m : Meaning) (n₀ : ℕ) (p : Price) (Ok : ℕ → List InstructionV → Type 0) (Load-ok : ℕ → InstructionV → Type 0) (R : Hir → Hir → Report → ℕ → Counts → Type 0) : Type 0 where
+  pub ok-sub : {type : ℕ} {xs ys : List InstructionV} → Sublist xs ys → Ok type ys → Ok type xs
+  pub ok-load : (type : ℕ) (rows : List InstructionV) (i : InstructionV) → Ok type rows → Lists rows i → is-global i ≡ true → Load-ok type i
   pub same : (h : Hir) → R h h nothing 0 no-counts
   pub then : {a b c : Hir} {r s : Report} {x y : ℕ} {u v : Counts} → R a b r x u → R b c s y v → R a c (add r s) (x + y) (plus u v)
   pub more : {a b : Hir} {r : Report} {x : ℕ} (u v : Counts) → Le u v → R a b r x u → R a b r x v
   pub idle : (h : Hir) → p .group h (done h) ≡ 0
   pub closes : (type : ℕ) (gs : List InstructionV) (a b : InstructionV) (ms : List InstructionV) (h : Hir) → eqb type 0 ≡ false
-      → ((i : InstructionV) → Lists gs i → Load-ok i) → All-elements (a ∷ b ∷ ms) → Ok (a ∷ b ∷ ms)
+      → ((i : InstructionV) → Lists gs i → Load-ok type i) → All-elements (a ∷ b ∷ ms) → Ok type (a ∷ b ∷ ms)
       → R h (process-jsx-group type gs (a ∷ b ∷ ms) h .hir) (process-jsx-group type gs (a ∷ b ∷ ms) h .report) (p .group h (process-jsx-group type gs (a ∷ b ∷ ms) h)) (plus (rows-counts (a ∷ b ∷ ms)) (pair 1))
-  pub relists : (h : Hir) (f k : ℕ) (w : Rewrite) (ws : List Rewrite) → f < n₀ → n₀ ≤ length (h .functions) → Ok (rows-at h f k) → ((v : Rewrite) → Lists (w ∷ ws) v → length (v .rows) ≡ 2) → 2 * length (w ∷ ws) ≤ rows-counts (rows-at h f k) .elements
+  pub relists : (h : Hir) (f k : ℕ) (w : Rewrite) (ws : List Rewrite) → f < n₀ → n₀ ≤ length (h .functions) → (type : ℕ) → eqb type 0 ≡ false → Ok type (rows-at h f k) → ((v : Rewrite) → Lists (w ∷ ws) v → length (v .rows) ≡ 2) → 2 * length (w ∷ ws) ≤ rows-counts (rows-at h f k) .elements
       → R h (eliminated m (with-list h f k (rewritten (w ∷ ws) (rows-at h f k))) f) nothing (p .list (rewritten (w ∷ ws) (rows-at h f k))) (new-list (length (rows-at h f k) + rows-counts (rows-at h f k) .elements / 2))
 
 add-none : (r : Report) → add r nothing ≡ r
@@ -125,7 +125,7 @@ add-none r =
     ∙ ap (λ (n : ℕ). record { functions = r .functions; abandoned = n; properties = r .properties + 0 }) a
     ∙ ap (λ (n : ℕ). record { functions = r .functions; abandoned = r .abandoned; properties = n }) q
 
-module _ (m : Meaning) (lawful : Lawful m) (n₀ : ℕ) (p : Price) (Ok : List InstructionV → Type 0) (Load-ok : InstructionV → Type 0) (R : Hir → Hir → Report → ℕ → Counts → Type 0) (kept : Kept m n₀ p Ok Load-ok R) where
+module _ (m : Meaning) (lawful : Lawful m) (n₀ : ℕ) (p : Price) (Ok : ℕ → List InstructionV → Type 0) (Load-ok : ℕ → InstructionV → Type 0) (R : Hir → Hir → Report → ℕ → Counts → Type 0) (kept : Kept m n₀ p Ok Load-ok R) where
   resum : {a b : Hir} {r : Report} {u : Counts} (x y : ℕ) → x ≡ y → R a b r x u → R a b r y u
   resum {a} {b} {r} {u} x y e q = subst (λ n. R a b r n u) e q
 
@@ -136,7 +136,7 @@ module _ (m : Meaning) (lawful : Lawful m) (n₀ : ℕ) (p : Price) (Ok : List I
   idle-close : (h : Hir) (u : Counts) → R h h nothing (p .group h (done h)) u
   idle-close h u = resum 0 (p .group h (done h)) (sym (kept .idle h)) (kept .more no-counts u (le-none u) (kept .same h))
 
-  close-related : (type : ℕ) (gs ms : List InstructionV) (h : Hir) → ((i : InstructionV) → Lists gs i → Load-ok i) → All-elements ms → Ok ms
+  close-related : (type : ℕ) (gs ms : List InstructionV) (h : Hir) → ((i : InstructionV) → Lists gs i → Load-ok type i) → All-elements ms → Ok type ms
     → R h (process-jsx-group type gs ms h .hir) (process-jsx-group type gs ms h .report) (p .group h (process-jsx-group type gs ms h)) (outside-components type (closing-counts ms))
   close-related type gs [] h l q o = idle-close h (outside-components type no-counts)
   close-related type gs (a ∷ []) h l q o = idle-close h (outside-components type no-counts)
@@ -147,7 +147,7 @@ module _ (m : Meaning) (lawful : Lawful m) (n₀ : ℕ) (p : Price) (Ok : List I
       | inr e ↦ kept .more c (outside-components type c) (le-same c (outside-components type c) (sym (pick-false (eqb type 0) no-counts c e))) (kept .closes type gs a b ms h e l q o) ]
 
   abbrev Ok-function : FunctionV → Type 0
-  Ok-function g = (j : ℕ) → Ok (block-rows (g .blocks) j)
+  Ok-function g = (j : ℕ) → Ok (g .type) (block-rows (g .blocks) j)
 
   pub record Fine (d : ℕ) (h : Hir) (x : ℕ) : Type 0 where
     pub distinct : Distinct (on-walk d h x)
@@ -203,7 +203,7 @@ module _ (m : Meaning) (lawful : Lawful m) (n₀ : ℕ) (p : Price) (Ok : List I
       pub part : (j : ℕ) → k ≤ j → Sublist (block-rows (function-at s f .blocks) j) (block-rows bs₀ j)
       pub len : length (function-at s f .blocks) ≡ length bs₀
       pub type : function-at s f .type ≡ function-at h₀ f .type
-      pub loads : (i : InstructionV) → Lists gs i → Load-ok i
+      pub loads : (i : InstructionV) → Lists gs i → Load-ok (function-at h₀ f .type) i
       pub clean : Clean s (inner-of (drop k (function-at s f .blocks)))
       pub untouched : (g : ℕ) → Out g (on-walk (suc d) h₀ f) → g < length (h₀ .functions) → function-at s g ≡ function-at h₀ g
 
@@ -220,14 +220,14 @@ module _ (m : Meaning) (lawful : Lawful m) (n₀ : ℕ) (p : Price) (Ok : List I
       abbrev later : List ℕ
       later = inner-of (drop (suc k) bs)
 
-      ok : Ok rows
-      ok = kept .ok-sub (start .part k (omega arith)) (fine₀ .each f f-here .1 k)
+      ok : Ok type rows
+      ok = subst (λ z. Ok z rows) (sym (start .type)) (kept .ok-sub (start .part k (omega arith)) (fine₀ .each f f-here .1 k))
 
       -- within block k
       record Inside (w : Walk) (todo back : List InstructionV) : Type 0 where
         pub growing : length (c .functions) ≤ length (w .hir .functions)
         pub same-f : function-at (w .hir) f ≡ function-at c f
-        pub loads : (i : InstructionV) → Lists (w .globals) i → Load-ok i
+        pub loads : (i : InstructionV) → Lists (w .globals) i → Load-ok type i
         pub members : Sublist (w .members) back
         pub jsx : All-elements (w .members)
         pub few : 2 * length (w .rewrites) + length (w .members) ≤ rows-counts back .elements
@@ -270,7 +270,7 @@ module _ (m : Meaning) (lawful : Lawful m) (n₀ : ℕ) (p : Price) (Ok : List I
           let q = later-row w i todo back (ap (λ (x : ℕ). eqb x 31) (eqb-true (i .kind) 29 g)) n in
           record {
             growing = q .growing; same-f = q .same-f;
-            loads = λ j a. elim (lists-head a) [ inl e ↦ subst Load-ok (sym e) (kept .ok-load rows i ok l g) | inr a′ ↦ n .loads j a′ ];
+            loads = λ j a. elim (lists-head a) [ inl e ↦ subst (Load-ok type) (sym e) (kept .ok-load type rows i ok l g) | inr a′ ↦ n .loads j a′ ];
             members = q .members; jsx = q .jsx; few = q .few; two = q .two; component = q .component; clean = q .clean; untouched = q .untouched }
 
       join-inside : (w : Walk) (i : InstructionV) (todo back : List InstructionV) → is-element i ≡ true → Inside w (i ∷ todo) back → Inside (joined w i) todo (i ∷ back)
@@ -346,7 +346,7 @@ module _ (m : Meaning) (lawful : Lawful m) (n₀ : ℕ) (p : Price) (Ok : List I
       abbrev ahead : Walk → List InstructionV → Counts
       ahead w todo = plus (outside-components type (open-counts todo (w .members))) (reached-counts (inner todo))
 
-      ok-members : (w : Walk) (todo back : List InstructionV) → Sublist back rows → Inside w todo back → Ok (w .members)
+      ok-members : (w : Walk) (todo back : List InstructionV) → Sublist back rows → Inside w todo back → Ok type (w .members)
       ok-members w todo back s n = kept .ok-sub (sub-trans (n .members) s) ok
 
       abbrev Step : Walk → InstructionV → List InstructionV → ℕ → Counts → Walk → ℕ → Type 0
@@ -408,7 +408,7 @@ module _ (m : Meaning) (lawful : Lawful m) (n₀ : ℕ) (p : Price) (Ok : List I
 
       start-inside : (rep : Report) → Inside (start-block c gs rep) (backwards rows) []
       start-inside rep = record {
-          growing = omega arith; same-f = refl; loads = start .loads; members = ends; jsx = λ i l. lists-none l; few = omega arith; two = λ v l. lists-none l; component = λ _. refl;
+          growing = omega arith; same-f = refl; loads = λ i l. subst (λ z. Load-ok z i) (sym (start .type)) (start .loads i l); members = ends; jsx = λ i l. lists-none l; few = omega arith; two = λ v l. lists-none l; component = λ _. refl;
           clean = subst (Clean c) (later-split bs k short) (start .clean);
           untouched = start .untouched }
 
@@ -431,7 +431,7 @@ module _ (m : Meaning) (lawful : Lawful m) (n₀ : ℕ) (p : Price) (Ok : List I
                 part = λ j l. subst (λ (g : FunctionV). Sublist (block-rows (g .blocks) j) (block-rows bs₀ j)) (sym (n .same-f)) (start .part j (omega arith));
                 len = ap (λ (g : FunctionV). length (g .blocks)) (n .same-f) ∙ start .len;
                 type = ap (λ (g : FunctionV). g .type) (n .same-f) ∙ start .type;
-                loads = n .loads;
+                loads = λ i l. subst (λ z. Load-ok z i) (start .type) (n .loads i l);
                 clean = subst (λ (g : FunctionV). Clean hv (inner-of (drop (suc k) (g .blocks)))) (sym (n .same-f)) (n .clean);
                 untouched = n .untouched };
               counts = subst (λ (g : FunctionV). Le (blocks-counts (drop (suc k) (g .blocks))) (blocks-counts (drop (suc k) bs))) (sym (n .same-f)) (le-refl (blocks-counts (drop (suc k) bs)));
@@ -492,7 +492,7 @@ module _ (m : Meaning) (lawful : Lawful m) (n₀ : ℕ) (p : Price) (Ok : List I
                 part = part₂;
                 len = ap (λ (g : FunctionV). length (g .blocks)) at₂ ∙ listing-length (function-at h₁ f .blocks) (m h₁ f) ∙ ap (λ (g : FunctionV). length (g .blocks)) at₁ ∙ length-changed (λ b. with-rows b new-rows) k (function-at hv f .blocks) ∙ ap (λ (g : FunctionV). length (g .blocks)) (n .same-f) ∙ start .len;
                 type = ap (λ (g : FunctionV). g .type) at₂ ∙ ap (λ (g : FunctionV). g .type) at₁ ∙ ap (λ (g : FunctionV). g .type) (n .same-f) ∙ start .type;
-                loads = n .loads;
+                loads = λ i l. subst (λ z. Load-ok z i) (start .type) (n .loads i l);
                 clean = clean-sub h₂ inside₂ (clean-same hv h₂ later (λ g q. there₂ g (λ e. in-out f (Reach later) (subst (λ x. In x (Reach later)) e q) (n .clean .apart))) (n .clean));
                 untouched = λ g o l. there₂ g (λ e. in-out f (on-walk (suc d) h₀ f) f-here (subst (λ z. Out z (on-walk (suc d) h₀ f)) e o)) ∙ n .untouched g o l };
               counts = counts₂;
@@ -518,7 +518,7 @@ module _ (m : Meaning) (lawful : Lawful m) (n₀ : ℕ) (p : Price) (Ok : List I
                 let fw′ : 2 * length (w ∷ rs) + length (v .members) ≤ rows-counts rows .elements = subst (λ (z : List Rewrite). 2 * length z + length (v .members) ≤ rows-counts rows .elements) e fw in
                 let fw″ : 2 * length (w ∷ rs) ≤ rows-counts rows .elements = omega arith in
                 let a = start .growing in let b = n .growing in
-                let step = kept .relists hv f k w rs f-low (omega arith) (subst Ok (sym same-rows) ok) (λ x l. n .two x (subst (λ (z : List Rewrite). Lists z x) (sym e) l)) (subst (λ (z : List InstructionV). 2 * length (w ∷ rs) ≤ rows-counts z .elements) (sym same-rows) fw″) in
+                let step = kept .relists hv f k w rs f-low (omega arith) type yes (subst (Ok type) (sym same-rows) ok) (λ x l. n .two x (subst (λ (z : List Rewrite). Lists z x) (sym e) l)) (subst (λ (z : List InstructionV). 2 * length (w ∷ rs) ≤ rows-counts z .elements) (sym same-rows) fw″) in
                 let at : (z : Counts) → outside-components type z ≡ z = λ z. pick-false (eqb type 0) no-counts z yes in
                 let l₁ = le-same (outside-components type (open-counts (backwards rows) [])) (open-counts (backwards rows) []) (at (open-counts (backwards rows) [])) in
                 let l₂ = le-same (block-counts rows) (outside-components type (block-counts rows)) (sym (at (block-counts rows))) in
