@@ -10,3 +10,4 @@ pub mod Costs
 pub mod Allowances
 pub mod Marks
 pub mod Texts
+pub mod Ceilings
