@@ -17,6 +17,7 @@ use Rattle.rules.specs.Drawn.{Borne}
 use Rattle.rules.proofs.Steps.{pick-false, pick-true}
 use Rattle.rules.proofs.Naming.{same-true}
 
+-- a function more: a tag that names it calls it
 abbrev pub with-call : {V : Type 0} → Reading V → (ℕ → V) → Lookup V → FunctionV → Lookup V
 with-call r e earlier g own x = elim (has-tag g (loaded own x)) [ true ↦ Some (given-by r e earlier g) | false ↦ earlier own x ]
 
@@ -61,17 +62,19 @@ loaded-all P (i ∷ is) x n f =
       true ↦ λ h. f i here (and-parts (is-global i) (eqb (i .result .identifier) x) h .0)
     | false ↦ λ _. loaded-all P is x n (λ j l. f j (there l)) ]) refl
 
+-- a name that is loaded is borne
 pub borne-loaded : (own : List InstructionV) (gs : Bytes → Bool) (x : ℕ) → ((i : InstructionV) → Lists own i → is-global i ≡ true → Borne (i .name) gs) → Borne (loaded own x) gs
 borne-loaded own gs x f = loaded-all (λ n. Borne n gs) own x tt f
 
-pub bears-plain : (g : FunctionV) (n : Option Bytes) → g .appended ≡ false → has-tag g n ≡ false
-bears-plain g None h = refl
-bears-plain g (Some n) h = and-left (g .appended) (same-name (g .tag) (Some n)) h
+pub plain-no-tag : (g : FunctionV) (n : Option Bytes) → g .appended ≡ false → has-tag g n ≡ false
+-- a function that is not appended has no tag to be called by
+plain-no-tag g None h = refl
+plain-no-tag g (Some n) h = and-left (g .appended) (same-name (g .tag) (Some n)) h
 
--- a bearer's tag is the name
-pub bearer-known : (g : FunctionV) (n : Option Bytes) (gs : Bytes → Bool) → (g .appended ≡ true → Borne (g .tag) gs) → has-tag g n ≡ true → Borne n gs
-bearer-known g None gs f h = tt
-bearer-known g (Some n) gs f h = go (g .tag) refl
+-- a name that is a known tag is borne
+pub has-tag-known : (g : FunctionV) (n : Option Bytes) (gs : Bytes → Bool) → (g .appended ≡ true → Borne (g .tag) gs) → has-tag g n ≡ true → Borne n gs
+has-tag-known g None gs f h = tt
+has-tag-known g (Some n) gs f h = go (g .tag) refl
   where
     go : (t : Option Bytes) → g .tag ≡ t → gs n ≡ true
     go None e = absurd (both-ways false refl (subst (λ (z : Option Bytes). same-name z (Some n) ≡ true) e (and-parts (g .appended) (same-name (g .tag) (Some n)) h .1)))
@@ -79,16 +82,16 @@ bearer-known g (Some n) gs f h = go (g .tag) refl
         let p = and-parts (g .appended) (same-name (g .tag) (Some n)) h in
         subst (λ z. gs z ≡ true) (same-true t n (subst (λ (z : Option Bytes). same-name z (Some n) ≡ true) e (p .1))) (subst (λ (z : Option Bytes). Borne z gs) e (f (p .0)))
 
--- a function that bears a new tag is named by no known name
-pub bears-new : (g : FunctionV) (tag : Bytes) (gs : Bytes → Bool) (n : Option Bytes) → g .tag ≡ Some tag → gs tag ≡ false → Borne n gs → has-tag g n ≡ false
-bears-new g tag gs None t o b = refl
-bears-new g tag gs (Some n) t o b = and-right (g .appended) (same-name (g .tag) (Some n)) (elim (cases-bool (same-bytes tag n)) [
+-- a new tag is no name that is borne already
+pub new-tag-apart : (g : FunctionV) (tag : Bytes) (gs : Bytes → Bool) (n : Option Bytes) → g .tag ≡ Some tag → gs tag ≡ false → Borne n gs → has-tag g n ≡ false
+new-tag-apart g tag gs None t o b = refl
+new-tag-apart g tag gs (Some n) t o b = and-right (g .appended) (same-name (g .tag) (Some n)) (elim (cases-bool (same-bytes tag n)) [
     inl e ↦ absurd (both-ways (gs tag) o (subst (λ z. gs z ≡ true) (sym (same-true tag n e)) b))
   | inr e ↦ ap (λ (z : Option Bytes). same-name z (Some n)) t ∙ e ])
 
 module _ {V : Type 0} (r : Reading V) (e : ℕ → V) where
   plain-function : (l : Lookup V) (g : FunctionV) → g .appended ≡ false → with-call r e l g ≡ l
-  plain-function l g h = fun-ext (λ own. fun-ext (λ x. pick-false (has-tag g (loaded own x)) (Some (given-by r e l g)) (l own x) (bears-plain g (loaded own x) h)))
+  plain-function l g h = fun-ext (λ own. fun-ext (λ x. pick-false (has-tag g (loaded own x)) (Some (given-by r e l g)) (l own x) (plain-no-tag g (loaded own x) h)))
 
   with-changed : (F : FunctionV → FunctionV) → ((g : FunctionV) → F g .appended ≡ g .appended) → (l : Lookup V) (f : ℕ) (fs : List FunctionV) → getD fs f no-function .appended ≡ false → with-calls r e l (changed F f fs) ≡ with-calls r e l fs
   with-changed F k l zero [] h = refl
@@ -96,9 +99,11 @@ module _ {V : Type 0} (r : Reading V) (e : ℕ → V) where
   with-changed F k l zero (g ∷ fs) h = ap (λ (z : Lookup V). with-calls r e z fs) (plain-function l (F g) (k g ∙ h) ∙ sym (plain-function l g h))
   with-changed F k l (suc f) (g ∷ fs) h = with-changed F k (with-call r e l g) f fs h
 
+  -- changing a function that is not appended changes no call
   pub calls-changed : (F : FunctionV → FunctionV) → ((g : FunctionV) → F g .appended ≡ g .appended) → (f : ℕ) (fs : List FunctionV) → getD fs f no-function .appended ≡ false → calls r e (changed F f fs) ≡ calls r e fs
   calls-changed F k f fs h = with-changed F k no-calls f fs h
 
+  -- the last function appended
   pub with-snoc : (l : Lookup V) (fs : List FunctionV) (g : FunctionV) → with-calls r e l (fs ++ (g ∷ [])) ≡ with-call r e (with-calls r e l fs) g
   with-snoc l [] g = refl
   with-snoc l (f ∷ fs) g = with-snoc (with-call r e l f) fs g

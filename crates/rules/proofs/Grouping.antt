@@ -26,6 +26,7 @@ use Rattle.rules.proofs.Bindings.{olds, bind-grown, bind-well, bind-covers, We
 use Rattle.rules.proofs.GroupValue.{place-read, Solved, Group}
 use Rattle.rules.proofs.TagLoads.{Copies, copies-from, copies-all, places-of, member-places, places-member}
 
+-- taking a tag and the fresh identifiers keeps the rows
 take-grown : (h : Hir) → Grown h (take-tag h)
 take-grown h = record { functions = refl; bears = refl; rows = refl; identifiers = omega arith }
 
@@ -50,6 +51,7 @@ prepare-grown h es =
     let name = tag-temporary (length (h .identifiers)) in
     grown-then (take-grown h) (grown-then (fresh-grown (take-tag h) (promoted name)) (grown-then (write-grown (fresh (take-tag h) (promoted name)) name) (bound-grown h es)))
 
+-- the load's identifier is a new one
 pub prepare-load : (h : Hir) (es : List OutlinedJsxAttribute) → length (h .identifiers) < length (prepare h es .hir .identifiers)
 prepare-load h es =
     let a = fresh-length (take-tag h) (promoted (tag-temporary (length (h .identifiers)))) in
@@ -66,6 +68,7 @@ module _ {V : Type 0} (r : Reading V) (F : Hir) (f k : ℕ) (own rows : List Ins
     pub name : In (l .result .identifier) (gathered reads rows) → loaded own (l .result .identifier) ≡ l .name
     pub place : In (l .result .identifier) (gathered reads rows) → Lists rows l ⊎ (Out (l .result .identifier) (gathered writes rows) × ((e : ℕ → V) → Admitted r F f k e → e (l .result .identifier) ≡ r .global (l .name) (l .detail)))
 
+  -- so at a cut of the block it has its value
   load-right : (e : ℕ → V) → Admitted r F f k e → (c : Calls V) (before rest : List InstructionV) → rows ≡ before ++ rest → (l : InstructionV) → Known l → Out (l .result .identifier) (gathered writes rest) → In (l .result .identifier) (gathered reads rows) → runs r c None (from-start e) before .value (l .result .identifier) ≡ r .global (l .name) (l .detail)
   load-right e a c before rest eq l kn o i =
       let x = l .result .identifier in
@@ -98,6 +101,7 @@ module _ {V : Type 0} (r : Reading V) (F : Hir) (f k : ℕ) (own rows : List Ins
     pub load-names : (l : InstructionV) → Lists loads l → loaded own (l .result .identifier) ≡ l .name
     load-names l q = known l (copies-from cs l q .0) .name (load-read l q)
 
+    -- an entry's identifier is read by a row of the block
     pub entry-reads : (e : OutlinedJsxAttribute) → Lists (collect-props h₀ (m ∷ ms) .entries) e → In (e .place .identifier) (gathered reads rows)
     entry-reads = gather-from (results (m ∷ ms)) (λ x. In x (gathered reads rows)) (start-gathering h₀) (places-of (m ∷ ms))
         (λ p l h. let w = places-member (m ∷ ms) p l in in-gathered reads (p .identifier) (sub-lists sub (w .1)) (place-read (w .0 .places) p (w .2) h))
@@ -116,6 +120,7 @@ module _ {V : Type 0} (r : Reading V) (F : Hir) (f k : ℕ) (own rows : List Ins
       abbrev prepared : Prepared
       prepared = prepare (collect-props h₀ (m ∷ ms) .hir) entries
 
+      -- the table is well made
       well : Well S given size (create-old-to-new-props-mapping (with-load (collect-props h₀ (m ∷ ms) .hir)) entries)
       well =
           let h = collect-props h₀ (m ∷ ms) .hir in
@@ -137,10 +142,12 @@ module _ {V : Type 0} (r : Reading V) (F : Hir) (f k : ℕ) (own rows : List Ins
       all-before : All-before before (m ∷ ms)
       all-before = sub-before before after m ms distinct-here (subst (λ (z : List InstructionV). Sublist (m ∷ ms) z) eq sub)
 
+      -- the members are satisfied by the values at the cut before the root
       solve : (a : (b : Bound) → Lists (prepared .table) b → size ≤ b .fresh) (n : InstructionV) (ns : List InstructionV) → All-before before (n ∷ ns) → ((i : InstructionV) → Lists (n ∷ ns) i → is-element i ≡ true) → Solved r S given (results (m ∷ ms)) (prepared .table) size a (calls r e fs own) (n ∷ ns)
       solve a n [] b j = (tt, tt)
       solve a n (o ∷ ns) b j = (settled-element r (calls r e fs own) (from-start e) (b .0) (j n here) distinct-before (ordered-left before (last-of m ms ∷ after) ordered-here), solve a o ns (b .1) (λ i l. j i (there l)))
 
+      -- all that the value of the call rests on
       pub group : Group r e fs own S given size (prepared .table) loads m ms
       group = record {
           above = well .above;

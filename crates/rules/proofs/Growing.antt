@@ -28,6 +28,7 @@ grown-then p q =
     record { functions = q .functions ∙ p .functions; bears = q .bears ∙ p .bears; rows = q .rows ∙ p .rows; identifiers = omega arith }
 
 pub promote-grown : (h : Hir) (x : ℕ) → Grown h (promote h x)
+-- promoting, writing, taking an identifier
 promote-grown h x = elim (getD (h .identifiers) x no-identifier .name) as (λ n. Grown h (elim n [ absent ↦ write (with-identifiers h (changed (λ j. record { declaration = j .declaration; name = promoted (temporary (j .declaration)) }) x (h .identifiers))) (temporary (getD (h .identifiers) x no-identifier .declaration)) | named m ↦ h | promoted m ↦ h ])) [
     absent ↦
       let l = length-changed (λ j. record { declaration = j .declaration; name = promoted (temporary (j .declaration)) }) x (h .identifiers) in

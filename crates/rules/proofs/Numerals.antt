@@ -12,6 +12,7 @@ use Rattle.rules.specs.Views.{Bytes}
 use Rattle.rules.specs.Names.{digits-of, numeral}
 use Rattle.rules.proofs.Steps.{pick-true, pick-false}
 
+-- the number that digits stand for
 value : ℕ → Bytes → ℕ
 value a [] = a
 value a (d ∷ ds) = value (a * 10 + (d - 48)) ds
@@ -33,6 +34,7 @@ digits-value (suc k) n h = elim (cases-bool (ltb n 10)) [
       ∙ ap (λ (m : ℕ). m * 10 + (48 + n % 10 - 48)) (digits-value k (n / 10) (omega arith))
       ∙ (omega arith) ]
 
+-- so two numbers with the same numeral are one
 pub numeral-same : (m n : ℕ) → numeral m ≡ numeral n → m ≡ n
 unfolding numeral
 numeral-same m n e =
@@ -66,6 +68,7 @@ numeral-last d own n = elim (cases-bool (ltb n 10)) [
       let q : last d (own ++ numeral n) ≡ 48 + n % 10 = ap (λ (ds : Bytes). last d (own ++ ds)) (pick-false (ltb n 10) ((48 + n) ∷ []) (digits-of n (n / 10) ++ ((48 + n % 10) ∷ [])) e) ∙ last-after d own (digits-of n (n / 10)) (48 + n % 10) in
       (omega arith, omega arith) ]
 
+-- digits do not depend on how many are allowed, once they suffice
 abbrev Spelt : ℕ → List ℕ → Type 0
 Spelt n ds = (k : ℕ) → n < k → digits-of k n ≡ ds
 

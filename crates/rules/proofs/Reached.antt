@@ -33,8 +33,10 @@ same-walk h s (suc d) x q =
     ∙ ap (λ (l : List ℕ). x ∷ l) (gathered-same (on-walk d s) (on-walk d h) ys (λ y i. same-walk h s d y (λ g k. q g (or-right (eqb g x) (within g (gathered (on-walk d h) ys)) (in-gather (on-walk d h) g y ys i k)))))
 
 pub sound-more : (n n′ : ℕ) (g : FunctionV) → n ≤ n′ → Sound n g → Sound n′ g
+-- more identifiers do no harm
 sound-more n n′ g l s = record { once = s .once; ordered = s .ordered; in-range = λ i q x k. (let b = s .in-range i q x k in omega arith); own = s .own }
 
+-- what acceptance says of the functions on a walk d deep
 pub record Fine (d : ℕ) (h : Hir) (x : ℕ) : Type 0 where
   pub distinct : Distinct (on-walk d h x)
   pub each : (g : ℕ) → In g (on-walk d h x) → (g < length (h .functions)) × Sound (length (h .identifiers)) (function-at h g)

@@ -2,13 +2,12 @@
 use Prim.Native.Nat.{ℕ}
 use mathlib.Core.Path.{_≡_, refl, sym, ap, ap₂, _∙_, subst}
 use mathlib.Core.Logic.{_⊎_, inl, inr}
-use mathlib.Core.Bool.{Bool, true, false}
 use mathlib.Core.List.{List, [], _∷_}
 use lib.Dec.{eqb}
 use Rattle.std.proofs.shelf.Tests.{or-left, or-right, eqb-true, eq-eqb, cases-bool}
 use Rattle.std.specs.declared.option.Option.{Option}
 use Rattle.std.specs.declared.option.Option.the-variants.{Some, None}
-use Rattle.rules.specs.Lists.{within, gathered, select, Lists, here, there}
+use Rattle.rules.specs.Lists.{within, gathered, Lists, here, there}
 use Rattle.rules.specs.Views.{PlaceV, InstructionV, results}
 use Rattle.rules.specs.Emit.{find-global, emit-load-globals}
 use Rattle.rules.proofs.Membership.{In, lists-none, lists-head, lists-left, lists-right, lists-split}
@@ -19,12 +18,14 @@ pub data Copies (gs : List InstructionV) : List PlaceV → List InstructionV →
   no-copy : Copies gs [] []
   copy : {p : PlaceV} {g : InstructionV} {ps : List PlaceV} {ls : List InstructionV} → Lists gs g → g .result .identifier ≡ p .identifier → Copies gs ps ls → Copies gs (p ∷ ps) (g ∷ ls)
 
+-- a load is found or not
 find-cases : (gs : List InstructionV) (x : ℕ) → (find-global gs x ≡ None) ⊎ ((g : InstructionV) × (find-global gs x ≡ Some g) × Lists gs g × (g .result .identifier ≡ x))
 find-cases [] x = inl refl
 find-cases (g ∷ gs) x = elim (cases-bool (eqb (g .result .identifier) x)) [
     inl e ↦ inr (g, pick-true (eqb (g .result .identifier) x) (Some g) (find-global gs x) e, here, eqb-true (g .result .identifier) x e)
   | inr e ↦ (let p = pick-false (eqb (g .result .identifier) x) (Some g) (find-global gs x) e in elim (find-cases gs x) [ inl q ↦ inl (p ∙ q) | inr q ↦ inr (q .0, p ∙ q .1, there (q .2), q .3) ]) ]
 
+-- a tag place is missing, or all are copied
 pub load-cases : (gs : List InstructionV) (ps : List PlaceV) → (emit-load-globals gs ps ≡ None) ⊎ ((ls : List InstructionV) × (emit-load-globals gs ps ≡ Some ls) × Copies gs ps ls)
 load-cases gs [] = inr ([], refl, no-copy)
 load-cases gs (p ∷ ps) =
@@ -35,6 +36,7 @@ load-cases gs (p ∷ ps) =
         inl e ↦ inl (ap₂ with-rest (q .1) e)
       | inr t ↦ inr (q .0 ∷ t .0, ap₂ with-rest (q .1) (t .1), copy (q .2) (q .3) (t .2)) ] ]
 
+-- a copy is of a load among the globals, for one of the tag places, and each tag place has one
 pub copies-from : {gs : List InstructionV} {ps : List PlaceV} {ls : List InstructionV} → Copies gs ps ls → (l : InstructionV) → Lists ls l → Lists gs l × ((p : PlaceV) × Lists ps p × (l .result .identifier ≡ p .identifier))
 copies-from no-copy l m = lists-none m
 copies-from {gs} (copy {p} {g} a e c) l m = elim (lists-head m) [

@@ -53,9 +53,12 @@ keep h f = lists (function-at h f .blocks)
 
 -- Sweep keeps exactly the acting rows and, repeatedly, the rows that write what a terminal or a kept row reads.
 
--- is the row kept, where these identifiers are needed?
+-- a row is kept if it acts or writes something needed
+abbrev pub sweep-keeps : Bool → Bool → Bool
+sweep-keeps acts needed = acts || needed
+
 abbrev pub kept : List ℕ → InstructionV → Bool
-kept xs i = acting i || writes-one-of xs i
+kept xs i = sweep-keeps (acting i) (writes-one-of xs i)
 
 abbrev pub terminal-reads : List BlockV → List ℕ
 terminal-reads [] = []

@@ -10,6 +10,9 @@ phi-kind = 0
 abbrev pub destructure-kind : ℕ
 destructure-kind = 7
 
+abbrev pub call-expression-kind : ℕ
+call-expression-kind = 12
+
 abbrev pub jsx-kind : ℕ
 jsx-kind = 16
 
