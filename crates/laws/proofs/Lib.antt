@@ -11,3 +11,4 @@ pub mod Allowances
 pub mod Marks
 pub mod Texts
 pub mod Ceilings
+pub mod Naming

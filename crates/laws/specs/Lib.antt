@@ -2,3 +2,4 @@ pub mod Staying
 pub mod Allowances
 pub mod Reports
 pub mod Ceilings
+pub mod Naming
