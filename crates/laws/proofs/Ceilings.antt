@@ -20,14 +20,14 @@ use Rattle.rules.proofs.Membership.{In}
 use Rattle.rules.proofs.Steps.{pick-false}
 use Rattle.laws.specs.Staying.{identifier-at, Onward}
 use Rattle.laws.specs.Allowances.{Counts, no-counts, rows-counts, block-counts, blocks-counts, function-counts, tally, walk-counts, text-allowed, Price, Walk-formed}
-use Rattle.laws.specs.Ceilings.{Within-limits, Below-ceilings, Ceilings-hold}
+use Rattle.laws.specs.Ceilings.{mark-ceiling, Within-limits, Below-ceilings, Ceilings-hold}
 use Rattle.laws.proofs.Ways.{close-ways, emit-ways}
 use Rattle.laws.proofs.Onward.{same-changed, same-listing}
 use Rattle.laws.proofs.Staying.{onward-refl, onward-then, close-onward, relists-onward}
 use Rattle.laws.proofs.Reports.{walk-tallied}
 use Rattle.laws.proofs.Counting.{Le, le-refl, le-trans, rows-sub}
 use Rattle.laws.proofs.Walks.{Kept, Fine, walk-kept}
-use Rattle.laws.proofs.Marks.{walk-marked}
+use Rattle.laws.proofs.Marks.{mark-below}
 use Rattle.laws.proofs.Texts.{Declared, onward-declared, group-text}
 use Rattle.laws.proofs.Allowances.{allowances-suffice}
 
@@ -100,8 +100,8 @@ ceilings-hold m lawful h f a w l =
     let li = l .identifiers in let lu = l .instructions in let lf = l .functions in let lc = l .counter in let lm = l .mark in
     let tags = walk-kept m lawful n₀ free (λ type rows. Unit) (λ type i. Unit) (λ a b r s c. r .functions + r .abandoned ≤ c .pairs) (tags-kept m n₀) depth h f (omega arith) (record { distinct = a .once; each = λ g q. (a .used g q, λ j. tt) }) .related in
     let tallied = walk-tallied depth m h f .tags in
-    let marked = walk-marked depth m h f .mark (omega arith) (omega arith) in
-    let below : outline-jsx m h f .hir .mark ≤ 135217728 = omega arith in
+    let marked = mark-below depth m h f (l .borne) in
+    let below : outline-jsx m h f .hir .mark ≤ mark-ceiling = omega arith in
     let declared : Declared h = λ x. elim (cases-lt x (length (h .identifiers))) [
         inl t ↦ l .declarations x t
       | inr t ↦ (let e = ap (λ (i : IdentifierV). i .declaration) (getD-past (h .identifiers) x no-identifier t) in omega arith) ] in

@@ -8,7 +8,7 @@ pub mod Reports
 pub mod Outside
 pub mod Costs
 pub mod Allowances
+pub mod Naming
 pub mod Marks
 pub mod Texts
 pub mod Ceilings
-pub mod Naming
