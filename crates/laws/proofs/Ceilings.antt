@@ -19,17 +19,17 @@ use Rattle.rules.specs.Drawn.{Accepts, on-walk}
 use Rattle.rules.proofs.Membership.{In}
 use Rattle.rules.proofs.Steps.{pick-false}
 use Rattle.laws.specs.Staying.{identifier-at, Onward}
-use Rattle.laws.specs.Allowances.{Counts, no-counts, rows-counts, block-counts, blocks-counts, function-counts, tally, walk-counts, text-allowed, Price, Walk-formed}
-use Rattle.laws.specs.Ceilings.{mark-ceiling, Within-limits, Below-ceilings, Ceilings-hold}
+use Rattle.laws.specs.Allowances.{Counts, no-counts, rows-counts, block-counts, blocks-counts, function-counts, tally, walk-counts, text-allowed, Price, Of-every-walk}
+use Rattle.laws.specs.Ceilings.{mark-ceiling, counter-ceiling, Within-limits, Text-suffices, Counter-below, Mark-below, Mark-rises}
 use Rattle.laws.proofs.Ways.{close-ways, emit-ways}
 use Rattle.laws.proofs.Onward.{same-changed, same-listing}
 use Rattle.laws.proofs.Staying.{onward-refl, onward-then, close-onward, relists-onward}
 use Rattle.laws.proofs.Reports.{walk-tallied}
 use Rattle.laws.proofs.Counting.{Le, le-refl, le-trans, rows-sub}
 use Rattle.laws.proofs.Walks.{Kept, Fine, walk-kept}
-use Rattle.laws.proofs.Marks.{mark-below}
+use Rattle.laws.proofs.Marks.{mark-below-names}
 use Rattle.laws.proofs.Texts.{Declared, onward-declared, group-text}
-use Rattle.laws.proofs.Allowances.{allowances-suffice}
+use Rattle.laws.proofs.Sufficing.{identifiers-suffice, instructions-suffice}
 
 -- The counts of a block are within those of the walk.
 
@@ -92,16 +92,36 @@ tags-kept m n₀ = record {
     closes = λ type gs a b ms h t l j o. (let q = close-tags type gs a b ms h in omega arith);
     relists = λ h f k w ws low big type yes o two many. omega arith }
 
-pub ceilings-hold : Ceilings-hold
-ceilings-hold m lawful h f a w l =
+tags-few : Of-every-walk (λ m h f. outline-jsx m h f .report .functions + outline-jsx m h f .report .abandoned ≤ walk-counts depth h f .pairs)
+tags-few m lawful h f a w =
     let n₀ = length (h .functions) in
-    let s = allowances-suffice m lawful h f a w in
-    let si = s .identifiers in let su = s .instructions in
-    let li = l .identifiers in let lu = l .instructions in let lf = l .functions in let lc = l .counter in let lm = l .mark in
-    let tags = walk-kept m lawful n₀ free (λ type rows. Unit) (λ type i. Unit) (λ a b r s c. r .functions + r .abandoned ≤ c .pairs) (tags-kept m n₀) depth h f (omega arith) (record { distinct = a .once; each = λ g q. (a .used g q, λ j. tt) }) .related in
+    walk-kept m lawful n₀ free (λ type rows. Unit) (λ type i. Unit) (λ a b r s c. r .functions + r .abandoned ≤ c .pairs) (tags-kept m n₀) depth h f (omega arith) (record { distinct = a .once; each = λ g q. (a .used g q, λ j. tt) }) .related
+
+pub counter-below : Counter-below
+counter-below m lawful h f a w l =
+    let few = tags-few m lawful h f a w in
     let tallied = walk-tallied depth m h f .tags in
-    let marked = mark-below depth m h f (l .borne) in
-    let below : outline-jsx m h f .hir .mark ≤ mark-ceiling = omega arith in
+    let lf = l .functions in let lc = l .counter in
+    omega arith
+
+pub mark-rises : Mark-rises
+mark-rises = mark-below-names depth
+
+pub mark-below : Mark-below
+mark-below m lawful h f a w l =
+    let few = tags-few m lawful h f a w in
+    let rises = mark-rises m h f (l .borne) in
+    let si = identifiers-suffice m lawful h f a w in
+    let su = instructions-suffice m lawful h f a w in
+    let li = l .identifiers in let lu = l .instructions in let lf = l .functions in let lm = l .mark in
+    omega arith
+
+pub text-suffices : Text-suffices
+text-suffices m lawful h f a w l =
+    let n₀ = length (h .functions) in
+    let below = mark-below m lawful h f a w l in
+    let si = identifiers-suffice m lawful h f a w in
+    let li = l .identifiers in
     let declared : Declared h = λ x. elim (cases-lt x (length (h .identifiers))) [
         inl t ↦ l .declarations x t
       | inr t ↦ (let e = ap (λ (i : IdentifierV). i .declaration) (getD-past (h .identifiers) x no-identifier t) in omega arith) ] in
@@ -113,5 +133,4 @@ ceilings-hold m lawful h f a w l =
         let xa = x .attributes in let xc = x .children in let ya = y .attributes in let yc = y .children in
         omega arith) in
     let big : 10 ^ 20 ≡ 100000000000000000000 = refl in
-    let text = walk-kept m lawful n₀ free Ok (λ type i. Unit) (λ a b r s c. Written a b c) (written-kept m n₀) depth h f (omega arith) (record { distinct = a .once; each = each }) .related .text (omega arith) (omega arith) declared in
-    record { counter = omega arith; mark = below; text = text }
+    walk-kept m lawful n₀ free Ok (λ type i. Unit) (λ a b r s c. Written a b c) (written-kept m n₀) depth h f (omega arith) (record { distinct = a .once; each = each }) .related .text (omega arith) (omega arith) declared

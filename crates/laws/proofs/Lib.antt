@@ -7,7 +7,7 @@ pub mod Walks
 pub mod Reports
 pub mod Outside
 pub mod Costs
-pub mod Allowances
+pub mod Sufficing
 pub mod Naming
 pub mod Marks
 pub mod Texts

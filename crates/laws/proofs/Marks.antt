@@ -185,8 +185,8 @@ walk-marked : (d : ℕ) (m : Meaning) (h : Hir) (f : ℕ) → Marked h (outline-
 walk-marked = walked-on Marked (λ h. marked-same h h (λ n q. q) refl) marked-then close-marked (λ h f Fn q. marked-same h _ (λ n k. k) refl)
 
 -- no more names are passed over than are borne in the end
-pub mark-below : (d : ℕ) (m : Meaning) (h : Hir) (f : ℕ) → Few-borne h → outline-jsx-impl d m h f .hir .mark ≤ h .mark + (outline-jsx-impl d m h f .report .functions + outline-jsx-impl d m h f .report .abandoned) + (length (outline-jsx-impl d m h f .hir .identifiers) + outline-jsx-impl d m h f .hir .used-rows)
-mark-below d m h f few =
+pub mark-below-names : (d : ℕ) (m : Meaning) (h : Hir) (f : ℕ) → Few-borne h → outline-jsx-impl d m h f .hir .mark ≤ h .mark + (outline-jsx-impl d m h f .report .functions + outline-jsx-impl d m h f .report .abandoned) + (length (outline-jsx-impl d m h f .hir .identifiers) + outline-jsx-impl d m h f .hir .used-rows)
+mark-below-names d m h f few =
     let o = outline-jsx-impl d m h f .hir in
     let w = walk-marked d m h f in
     let last = walk-few-borne d m h f few in

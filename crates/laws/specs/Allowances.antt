@@ -44,9 +44,15 @@ abbrev pub rows-counts : List InstructionV → Counts
 rows-counts [] = no-counts
 rows-counts (i ∷ is) = plus (row-counts i) (rows-counts is)
 
--- a block has a half of its elements, rounded down, as the most groups of two or more; its new list has a row more for each
+-- a block has at most half as many groups of two or more as it has elements; with a group, its new list has a row more for each
+abbrev pub pairs-of : ℕ → ℕ
+pairs-of elements = elements / 2
+
+abbrev pub listed-of : ℕ → ℕ → ℕ
+listed-of elements rows = elim (leb 2 elements) [ true ↦ rows + pairs-of elements | false ↦ 0 ]
+
 abbrev pub halved : ℕ → ℕ → Counts
-halved elements rows = record { attributes = 0; children = 0; elements = 0; pairs = elements / 2; listed = elim (leb 2 elements) [ true ↦ rows + elements / 2 | false ↦ 0 ]; letters = 0 }
+halved elements rows = record { attributes = 0; children = 0; elements = 0; pairs = pairs-of elements; listed = listed-of elements rows; letters = 0 }
 
 abbrev pub block-counts : List InstructionV → Counts
 block-counts rows = plus (rows-counts rows) (halved (rows-counts rows .elements) (length rows))
@@ -70,28 +76,50 @@ tally c (x ∷ xs) = plus (c x) (tally c xs)
 abbrev pub walk-counts : ℕ → Hir → ℕ → Counts
 walk-counts d h f = tally (λ g. function-counts (function-at h g)) (on-walk d h f)
 
--- The allowances.
+-- The allowances, table by table.
 
+abbrev pub identifiers-allowance : ℕ → ℕ → ℕ → ℕ
+identifiers-allowance attributes children pairs = attributes + children + 4 * pairs
+
+abbrev pub instructions-allowance : ℕ → ℕ → ℕ
+instructions-allowance elements pairs = 3 * pairs + 2 * elements
+
+abbrev pub numbers-allowance : ℕ → ℕ → ℕ → ℕ
+numbers-allowance elements pairs listed = pairs + 2 * elements + listed
+
+abbrev pub places-allowance : ℕ → ℕ → ℕ → ℕ → ℕ
+places-allowance attributes children elements pairs = 4 * pairs + elements + 3 * (attributes + children)
+
+abbrev pub blocks-allowance : ℕ → ℕ
+blocks-allowance pairs = pairs
+
+abbrev pub functions-allowance : ℕ → ℕ
+functions-allowance pairs = pairs
+
+abbrev pub text-allowance : ℕ → ℕ → ℕ → ℕ → ℕ
+text-allowance letters attributes children pairs = letters + 10 * attributes + 23 * children + 39 * pairs
+
+-- and of the counts
 abbrev pub identifiers-allowed : Counts → ℕ
-identifiers-allowed c = c .attributes + c .children + 4 * c .pairs
+identifiers-allowed c = identifiers-allowance (c .attributes) (c .children) (c .pairs)
 
 abbrev pub instructions-allowed : Counts → ℕ
-instructions-allowed c = 3 * c .pairs + 2 * c .elements
+instructions-allowed c = instructions-allowance (c .elements) (c .pairs)
 
 abbrev pub numbers-allowed : Counts → ℕ
-numbers-allowed c = c .pairs + 2 * c .elements + c .listed
+numbers-allowed c = numbers-allowance (c .elements) (c .pairs) (c .listed)
 
 abbrev pub places-allowed : Counts → ℕ
-places-allowed c = 4 * c .pairs + c .elements + 3 * (c .attributes + c .children)
+places-allowed c = places-allowance (c .attributes) (c .children) (c .elements) (c .pairs)
 
 abbrev pub blocks-allowed : Counts → ℕ
-blocks-allowed c = c .pairs
+blocks-allowed c = blocks-allowance (c .pairs)
 
 abbrev pub functions-allowed : Counts → ℕ
-functions-allowed c = c .pairs
+functions-allowed c = functions-allowance (c .pairs)
 
 abbrev pub text-allowed : Counts → ℕ
-text-allowed c = c .letters + 10 * c .attributes + 23 * c .children + 39 * c .pairs
+text-allowed c = text-allowance (c .letters) (c .attributes) (c .children) (c .pairs)
 
 -- What a walk takes.
 
@@ -182,15 +210,27 @@ abbrev pub blocks-in : List FunctionV → ℕ
 blocks-in [] = 0
 blocks-in (f ∷ fs) = length (f .blocks) + blocks-in fs
 
--- What an outline takes, after and before, is within the allowances of the walk's counts.
-pub record Within-allowances (m : Meaning) (h : Hir) (f : ℕ) : Type 0 where
-  pub identifiers : length (outline-jsx m h f .hir .identifiers) ≤ length (h .identifiers) + identifiers-allowed (walk-counts depth h f)
-  pub instructions : outline-jsx m h f .hir .used-rows ≤ h .used-rows + instructions-allowed (walk-counts depth h f)
-  pub numbers : takes numbers depth m h f ≤ numbers-allowed (walk-counts depth h f)
-  pub places : takes places depth m h f ≤ places-allowed (walk-counts depth h f)
-  pub blocks : blocks-in (outline-jsx m h f .hir .functions) ≤ blocks-in (h .functions) + blocks-allowed (walk-counts depth h f)
-  pub functions : length (outline-jsx m h f .hir .functions) ≤ length (h .functions) + functions-allowed (walk-counts depth h f)
+-- That an allowance suffices is said of every accepted call, whatever the lawful elimination: what the outline takes of the table is
+-- within the allowance of the walk's counts.
+abbrev pub Of-every-walk : (Meaning → Hir → ℕ → Type 0) → Type 0
+Of-every-walk P = (m : Meaning) → Lawful m → (h : Hir) (f : ℕ) → Accepts h f → Walk-formed depth h f → P m h f
 
--- whatever the lawful elimination
-abbrev pub Allowances-suffice : Type 0
-Allowances-suffice = (m : Meaning) → Lawful m → (h : Hir) (f : ℕ) → Accepts h f → Walk-formed depth h f → Within-allowances m h f
+-- the tables that the view shows, by how long they are after and before
+abbrev pub Identifiers-suffice : Type 0
+Identifiers-suffice = Of-every-walk (λ m h f. length (outline-jsx m h f .hir .identifiers) ≤ length (h .identifiers) + identifiers-allowed (walk-counts depth h f))
+
+abbrev pub Instructions-suffice : Type 0
+Instructions-suffice = Of-every-walk (λ m h f. outline-jsx m h f .hir .used-rows ≤ h .used-rows + instructions-allowed (walk-counts depth h f))
+
+abbrev pub Blocks-suffice : Type 0
+Blocks-suffice = Of-every-walk (λ m h f. blocks-in (outline-jsx m h f .hir .functions) ≤ blocks-in (h .functions) + blocks-allowed (walk-counts depth h f))
+
+abbrev pub Functions-suffice : Type 0
+Functions-suffice = Of-every-walk (λ m h f. length (outline-jsx m h f .hir .functions) ≤ length (h .functions) + functions-allowed (walk-counts depth h f))
+
+-- list numbers and places, by what the walk takes
+abbrev pub Numbers-suffice : Type 0
+Numbers-suffice = Of-every-walk (λ m h f. takes numbers depth m h f ≤ numbers-allowed (walk-counts depth h f))
+
+abbrev pub Places-suffice : Type 0
+Places-suffice = Of-every-walk (λ m h f. takes places depth m h f ≤ places-allowed (walk-counts depth h f))

@@ -4,11 +4,11 @@ use mathlib.Core.Path.{_≡_}
 use mathlib.Core.List.{List}
 use lib.ListN.{length}
 use Rattle.rules.specs.Views.{Hir}
-use Rattle.rules.specs.Eliminations.{Meaning, Lawful}
+use Rattle.rules.specs.Eliminations.{Meaning}
 use Rattle.rules.specs.Outline.{outline-jsx, depth}
-use Rattle.rules.specs.Drawn.{Accepts, Few-borne}
+use Rattle.rules.specs.Drawn.{Few-borne}
 use Rattle.laws.specs.Staying.{identifier-at}
-use Rattle.laws.specs.Allowances.{walk-counts, identifiers-allowed, instructions-allowed, functions-allowed, text-allowed, Walk-formed}
+use Rattle.laws.specs.Allowances.{walk-counts, identifiers-allowed, instructions-allowed, functions-allowed, text-allowed, Of-every-walk}
 
 -- the most that the tag counter and the tag mark can come to
 abbrev pub counter-ceiling : ℕ
@@ -29,12 +29,19 @@ pub record Within-limits (h : Hir) (f : ℕ) : Type 0 where
   pub declarations : (x : ℕ) → x < length (h .identifiers) → identifier-at h x .declaration < 2 ^ 32
   pub borne : Few-borne h
 
--- What then holds when it is done: the mark has risen by at most 1,024 tags and the names that they passed over, all of which
--- identifiers or rows bear.
-pub record Below-ceilings (m : Meaning) (h : Hir) (f : ℕ) : Type 0 where
-  pub counter : outline-jsx m h f .hir .counter ≤ counter-ceiling
-  pub mark : outline-jsx m h f .hir .mark ≤ mark-ceiling
-  pub text : length (outline-jsx m h f .hir .text) ≤ length (h .text) + text-allowed (walk-counts depth h f)
+-- Then the text that the outline makes is within its allowance: a made name has at most ten bytes more than its old name, a promoted
+-- name at most twelve, a tag at most twenty-five.
+abbrev pub Text-suffices : Type 0
+Text-suffices = Of-every-walk (λ m h f. Within-limits h f → length (outline-jsx m h f .hir .text) ≤ length (h .text) + text-allowed (walk-counts depth h f))
 
-abbrev pub Ceilings-hold : Type 0
-Ceilings-hold = (m : Meaning) → Lawful m → (h : Hir) (f : ℕ) → Accepts h f → Walk-formed depth h f → Within-limits h f → Below-ceilings m h f
+-- the tag counter stays below its ceiling
+abbrev pub Counter-below : Type 0
+Counter-below = Of-every-walk (λ m h f. Within-limits h f → outline-jsx m h f .hir .counter ≤ counter-ceiling)
+
+-- and so does the tag mark
+abbrev pub Mark-below : Type 0
+Mark-below = Of-every-walk (λ m h f. Within-limits h f → outline-jsx m h f .hir .mark ≤ mark-ceiling)
+
+-- since it rises by the tags taken and the names that they passed over, all of which identifiers or rows bear in the end
+abbrev pub Mark-rises : Type 0
+Mark-rises = (m : Meaning) (h : Hir) (f : ℕ) → Few-borne h → outline-jsx m h f .hir .mark ≤ h .mark + (outline-jsx m h f .report .functions + outline-jsx m h f .report .abandoned) + (length (outline-jsx m h f .hir .identifiers) + outline-jsx m h f .hir .used-rows)

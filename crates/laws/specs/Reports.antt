@@ -24,12 +24,16 @@ abbrev pub properties-in : List FunctionV → ℕ
 properties-in [] = 0
 properties-in (f ∷ fs) = properties-of f + properties-in fs
 
+-- a tag is put on a function or abandoned
+abbrev pub tags-of : ℕ → ℕ → ℕ
+tags-of functions abandoned = functions + abandoned
+
 -- Functions are those appended: as many as there are more, and each of the new ones bears the mark of an appended one. Every tag taken
 -- is put on a function or abandoned.
 pub record Counted (h : Hir) (o : Outcome) : Type 0 where
   pub functions : length (o .hir .functions) ≡ length (h .functions) + o .report .functions
   pub appended : (f : ℕ) → length (h .functions) ≤ f → f < length (o .hir .functions) → function-at (o .hir) f .appended ≡ true
-  pub tags : o .hir .counter ≡ h .counter + (o .report .functions + o .report .abandoned)
+  pub tags : o .hir .counter ≡ h .counter + tags-of (o .report .functions) (o .report .abandoned)
 
 -- of every outline, whatever the elimination
 abbrev pub Every-report-counts : Type 0

@@ -2,7 +2,8 @@
 use Prim.Native.Nat.{ℕ, zero, suc, _+_, _<_, _≤_}
 use mathlib.Core.Path.{_≡_}
 use mathlib.Core.Logic.{_⊎_}
-use mathlib.Core.Bool.{true, false}
+use mathlib.Core.Bool.{Bool, true, false, not}
+use lib.Dec.{ltb}
 use mathlib.Core.List.{List, [], _∷_, _++_}
 use lib.ListN.{length, getD}
 use Rattle.rules.specs.Lists.{within}
@@ -31,6 +32,14 @@ identifier-at h x = getD (h .identifiers) x no-identifier
 pub record Same-identifier (i j : IdentifierV) : Type 0 where
   pub declaration : j .declaration ≡ i .declaration
   pub name : (j .name ≡ i .name) ⊎ ((i .name ≡ absent) × (j .name ≡ promoted (temporary (i .declaration))))
+
+-- a number below the count of what was used before
+abbrev pub is-old : ℕ → ℕ → Bool
+is-old n used = ltb n used
+
+-- a function that the walk does not come to
+abbrev pub stays-whole : Bool → Bool
+stays-whole on-walk = not on-walk
 
 -- What every outline keeps, whatever the elimination: what was used is still used, and means what it meant.
 pub record Onward (h h′ : Hir) : Type 0 where

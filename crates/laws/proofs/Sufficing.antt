@@ -19,7 +19,7 @@ use Rattle.rules.proofs.Membership.{In, Out, in-out, in-left, in-head, in-gathe
 use Rattle.rules.proofs.Positions.{length-changed, block-lists}
 use Rattle.rules.proofs.Steps.{pick-true, pick-false}
 use Rattle.rules.proofs.Sublists.{sub-lists, sub-distinct, sub-gathered}
-use Rattle.laws.specs.Allowances.{Counts, plus, rows-counts, walk-counts, identifiers-allowed, instructions-allowed, numbers-allowed, places-allowed, blocks-allowed, functions-allowed, Price, takes, numbers, places, Formed, Walk-formed, blocks-in, Within-allowances, Allowances-suffice}
+use Rattle.laws.specs.Allowances.{Counts, plus, rows-counts, walk-counts, identifiers-allowed, instructions-allowed, numbers-allowed, places-allowed, blocks-allowed, functions-allowed, Price, takes, numbers, places, Formed, Walk-formed, blocks-in, Of-every-walk, Identifiers-suffice, Instructions-suffice, Blocks-suffice, Functions-suffice, Numbers-suffice, Places-suffice}
 use Rattle.laws.proofs.Counting.{Le, pair, new-list}
 use Rattle.laws.proofs.Walks.{Kept, Fine, Result, walk-kept}
 use Rattle.laws.proofs.Costs.{All-formed, Group-cost, group-cost}
@@ -173,11 +173,32 @@ places-kept m n₀ = record {
 ok-walk : (h : Hir) (f : ℕ) → Accepts h f → Walk-formed depth h f → (g : ℕ) → In g (on-walk depth h f) → (j : ℕ) → Ok (function-at h g .type) (block-rows (function-at h g .blocks) j)
 ok-walk h f a w g i j = ((λ x l. w g i x (block-lists (function-at h g .blocks) j l)), block-distinct (function-at h g .blocks) j (a .sound g i .once))
 
-pub allowances-suffice : Allowances-suffice
-allowances-suffice m lawful h f a w =
+fine-walk : (h : Hir) (f : ℕ) → Accepts h f → Walk-formed depth h f → (g : ℕ) → In g (on-walk depth h f) → (g < length (h .functions)) × ((j : ℕ) → Ok (function-at h g .type) (block-rows (function-at h g .blocks) j))
+fine-walk h f a w g i = (a .used g i, ok-walk h f a w g i)
+
+shown : Of-every-walk (λ m h f. Shown h (outline-jsx m h f .hir) (walk-counts depth h f))
+shown m lawful h f a w =
     let n₀ = length (h .functions) in
-    let each : (g : ℕ) → In g (on-walk depth h f) → (g < n₀) × ((j : ℕ) → Ok (function-at h g .type) (block-rows (function-at h g .blocks) j)) = λ g i. (a .used g i, ok-walk h f a w g i) in
-    let s = walk-kept m lawful n₀ free Ok Load-ok (λ a b r s c. Shown a b c) (shown-kept m n₀) depth h f (omega arith) (record { distinct = a .once; each = each }) .related in
-    let n = walk-kept m lawful n₀ numbers Ok Load-ok (λ a b r s c. s ≤ numbers-allowed c) (numbers-kept m n₀) depth h f (omega arith) (record { distinct = a .once; each = each }) .related in
-    let p = walk-kept m lawful n₀ places Ok Load-ok (λ a b r s c. s ≤ places-allowed c) (places-kept m n₀) depth h f (omega arith) (record { distinct = a .once; each = each }) .related in
-    record { identifiers = s .identifiers; instructions = s .instructions; numbers = n; places = p; blocks = s .blocks; functions = s .functions }
+    walk-kept m lawful n₀ free Ok Load-ok (λ a b r s c. Shown a b c) (shown-kept m n₀) depth h f (omega arith) (record { distinct = a .once; each = fine-walk h f a w }) .related
+
+pub identifiers-suffice : Identifiers-suffice
+identifiers-suffice m lawful h f a w = shown m lawful h f a w .identifiers
+
+pub instructions-suffice : Instructions-suffice
+instructions-suffice m lawful h f a w = shown m lawful h f a w .instructions
+
+pub blocks-suffice : Blocks-suffice
+blocks-suffice m lawful h f a w = shown m lawful h f a w .blocks
+
+pub functions-suffice : Functions-suffice
+functions-suffice m lawful h f a w = shown m lawful h f a w .functions
+
+pub numbers-suffice : Numbers-suffice
+numbers-suffice m lawful h f a w =
+    let n₀ = length (h .functions) in
+    walk-kept m lawful n₀ numbers Ok Load-ok (λ a b r s c. s ≤ numbers-allowed c) (numbers-kept m n₀) depth h f (omega arith) (record { distinct = a .once; each = fine-walk h f a w }) .related
+
+pub places-suffice : Places-suffice
+places-suffice m lawful h f a w =
+    let n₀ = length (h .functions) in
+    walk-kept m lawful n₀ places Ok Load-ok (λ a b r s c. s ≤ places-allowed c) (places-kept m n₀) depth h f (omega arith) (record { distinct = a .once; each = fine-walk h f a w }) .related
