@@ -1,32 +1,32 @@
 -- On a store within the limits: the text, the tag counter and the tag mark stay below their ceilings.
-use Prim.Native.Nat.{ℕ, zero, suc, _+_, _*_, _^_, _<_, _≤_}
+use Prim.Native.Nat.{ℕ, zero, suc, _+_, _^_, _<_, _≤_}
 use native.Mathlib.Omega.{arith}
-use mathlib.Core.Path.{_≡_, refl, sym, ap, _∙_, subst}
+use mathlib.Core.Path.{_≡_, refl, sym, ap, subst}
 use mathlib.Core.Logic.{inl, inr}
-use mathlib.Core.Bool.{Bool, true, false, _||_}
+use mathlib.Core.Bool.{false}
 use mathlib.Core.List.{List, [], _∷_}
 use lib.ListN.{length}
 use lib.Dec.{eqb}
 use Rattle.std.proofs.shelf.Lists.{getD-past}
 use Rattle.std.proofs.shelf.Tests.{or-cases, both-ways, eqb-true, cases-lt}
-use Rattle.rules.specs.Lists.{within, changed, Sublist}
-use Rattle.rules.specs.Views.{InstructionV, BlockV, FunctionV, IdentifierV, Hir, is-element, block-rows, rows-at, function-at, with-rows, with-blocks, with-list}
+use Rattle.rules.specs.Lists.{within, changed}
+use Rattle.rules.specs.Views.{InstructionV, BlockV, FunctionV, IdentifierV, Hir, block-rows, rows-at, function-at, with-rows, with-blocks, with-list}
 use Rattle.rules.specs.Props.{no-identifier, collect-props}
-use Rattle.rules.specs.Emit.{Report, nothing, add, Outcome, process-jsx-group}
-use Rattle.rules.specs.Eliminations.{Meaning, Lawful, listing}
+use Rattle.rules.specs.Emit.{process-jsx-group}
+use Rattle.rules.specs.Eliminations.{Meaning, listing}
 use Rattle.rules.specs.Outline.{rewritten, outline-jsx, depth}
-use Rattle.rules.specs.Drawn.{Accepts, on-walk}
+use Rattle.rules.specs.Drawn.{on-walk}
 use Rattle.rules.proofs.Membership.{In}
 use Rattle.rules.proofs.Steps.{pick-false}
-use Rattle.laws.specs.Staying.{identifier-at, Onward}
-use Rattle.laws.specs.Allowances.{Counts, no-counts, rows-counts, block-counts, blocks-counts, function-counts, tally, walk-counts, text-allowed, Price, Of-every-walk}
-use Rattle.laws.specs.Ceilings.{mark-ceiling, counter-ceiling, Within-limits, Text-suffices, Counter-below, Mark-below, Mark-rises}
+use Rattle.laws.specs.Staying.{Onward}
+use Rattle.laws.specs.Allowances.{Counts, no-counts, rows-counts, blocks-counts, function-counts, tally, walk-counts, text-allowed, Of-every-walk}
+use Rattle.laws.specs.Ceilings.{Text-suffices, Counter-below, Mark-below, Mark-rises}
 use Rattle.laws.proofs.Ways.{close-ways, emit-ways}
 use Rattle.laws.proofs.Onward.{same-changed, same-listing}
 use Rattle.laws.proofs.Staying.{onward-refl, onward-then, close-onward, relists-onward}
 use Rattle.laws.proofs.Reports.{walk-tallied}
-use Rattle.laws.proofs.Counting.{Le, le-refl, le-trans, rows-sub}
-use Rattle.laws.proofs.Walks.{Kept, Fine, walk-kept}
+use Rattle.laws.proofs.Counting.{Le, le-refl, rows-sub}
+use Rattle.laws.proofs.Walks.{free, Kept, walk-kept}
 use Rattle.laws.proofs.Marks.{mark-below-names}
 use Rattle.laws.proofs.Texts.{Declared, onward-declared, group-text}
 use Rattle.laws.proofs.Sufficing.{identifiers-suffice, instructions-suffice}
@@ -45,9 +45,6 @@ tally-within c g (x ∷ xs) h = elim (or-cases (eqb g x) (within g xs) h) [
   | inr k ↦ (let q = tally-within c g xs k in omega arith) ]
 
 -- Text.
-
-abbrev free : Price
-free = record { group = λ h o. 0; list = λ rows. 0 }
 
 pub record Written (a b : Hir) (c : Counts) : Type 0 where
   pub onward : Onward a b

@@ -1,29 +1,27 @@
 -- What one group takes is within its members' share.
-use Prim.Native.Nat.{ℕ, zero, suc, _+_, _*_, _/_, _<_, _≤_}
+use Prim.Native.Nat.{ℕ, suc, _+_, _*_, _≤_}
 use native.Mathlib.Omega.{arith}
-use mathlib.Core.Path.{_≡_, refl, sym, ap, ap₂, _∙_, subst}
-use mathlib.Core.Logic.{_⊎_, inl, inr}
-use mathlib.Core.Bool.{Bool, true, false, _&&_, not}
+use mathlib.Core.Path.{_≡_, refl, sym, ap, _∙_, subst}
+use mathlib.Core.Logic.{inl, inr}
+use mathlib.Core.Bool.{true, false, not}
 use mathlib.Core.List.{List, [], _∷_, _++_, map}
 use lib.ListN.{length, getD, length-append}
 use lib.Dec.{eqb}
 use Rattle.std.proofs.shelf.Lists.{getD-push, append-nil}
 use Rattle.std.proofs.shelf.Tests.{cases-bool, both-ways, eqb-true, and-parts}
 use Rattle.rules.specs.Lists.{select, gathered, within, Lists, here, there}
-use Rattle.rules.specs.Views.{Bytes, PlaceV, InstructionV, FunctionV, NameV, absent, named, promoted, Hir, role-is, place-of, named-place, is-element, is-global, function-rows, no-function, results, write}
-use Rattle.std.specs.declared.option.Option.{Option}
+use Rattle.rules.specs.Views.{PlaceV, InstructionV, FunctionV, absent, named, promoted, Hir, role-is, place-of, named-place, is-element, function-rows, no-function, results, write}
 use Rattle.std.specs.declared.option.Option.the-variants.{Some, None}
 use Rattle.rules.specs.Names.{tag-temporary, temporary, is-key}
-use Rattle.rules.specs.Props.{OutlinedJsxAttribute, Gathering, promote, gather-place, gather, start-gathering, collect-props, fresh, Bound, put, latest, Mapping, bind-entries, create-old-to-new-props-mapping}
-use Rattle.rules.specs.Emit.{as-attribute, bound-place, tag-places, updated-places, updated, Prepared, prepare, take-tag, emit-outlined-fn, outcome, Report, nothing, Rewrite, Outcome, done, emit, process-jsx-group}
-use Rattle.rules.proofs.Membership.{lists-none, lists-head}
+use Rattle.rules.specs.Props.{OutlinedJsxAttribute, Gathering, gather-place, gather, start-gathering, collect-props, fresh, Bound, put, latest, Mapping, bind-entries, create-old-to-new-props-mapping}
+use Rattle.rules.specs.Emit.{as-attribute, bound-place, tag-places, updated-places, updated, Prepared, prepare, take-tag, emit-outlined-fn, outcome, Report, nothing, Outcome, process-jsx-group}
 use Rattle.rules.proofs.Positions.{length-changed}
 use Rattle.rules.proofs.Steps.{pick-true, pick-false}
-use Rattle.laws.specs.Allowances.{Counts, row-counts, rows-counts, element-counts, places-of, terminal-places, appended-by, group-numbers, group-places, Formed, blocks-in}
+use Rattle.laws.specs.Allowances.{Counts, rows-counts, places-of, terminal-places, appended-by, group-numbers, group-places, Formed, blocks-in}
 use Rattle.laws.proofs.Ways.{outer-child, gather-ways, bind-ways, bound-next, promote-ways, promoting, close-ways, emit-ways}
 use Rattle.laws.proofs.Groups.{collect-on}
 use Rattle.laws.proofs.Reports.{Quiet, quiet-refl, collect-quiet, prepare-quiet}
-use Rattle.laws.proofs.Counting.{row-yes, all-elements}
+use Rattle.laws.proofs.Counting.{row-yes}
 
 -- Places by role.
 

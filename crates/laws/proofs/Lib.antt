@@ -12,3 +12,4 @@ pub mod Naming
 pub mod Marks
 pub mod Texts
 pub mod Ceilings
+pub mod Worked

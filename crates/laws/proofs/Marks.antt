@@ -2,27 +2,26 @@
 use Prim.Native.Nat.{ℕ, zero, suc, _+_, _-_, _<_, _≤_}
 use native.Mathlib.Omega.{arith}
 use mathlib.Core.Path.{_≡_, refl, sym, ap, _∙_, subst}
-use mathlib.Core.Logic.{_⊎_, inl, inr}
-use mathlib.Core.Bool.{Bool, true, false, _||_}
+use mathlib.Core.Logic.{inl, inr}
+use mathlib.Core.Bool.{true, false}
 use mathlib.Core.List.{List, [], _∷_, _++_, map}
 use lib.ListN.{length, getD, length-append}
 use Rattle.std.proofs.shelf.Tests.{or-cases, or-left, or-right, or-from, both-ways}
 use Rattle.rules.specs.Lists.{changed, Lists, here, there}
-use Rattle.rules.specs.Views.{Bytes, InstructionV, FunctionV, NameV, absent, named, promoted, IdentifierV, Hir, with-identifiers, with-functions, write}
+use Rattle.rules.specs.Views.{Bytes, InstructionV, NameV, absent, named, promoted, IdentifierV, Hir, with-identifiers, write}
 use Rattle.rules.specs.Names.{same-bytes, borne, temporary, tag-name, names-of, known, next-tag}
 use Rattle.rules.specs.Props.{no-identifier, promote, fresh, collect-props}
-use Rattle.rules.specs.Emit.{take-tag, outline-function, Report, nothing, add, prepare, Outcome, emit, process-jsx-group}
+use Rattle.rules.specs.Emit.{outline-function, Report, nothing, add, prepare, emit, process-jsx-group}
 use Rattle.rules.specs.Eliminations.{Meaning}
 use Rattle.rules.specs.Outline.{outline-jsx-impl}
 use Rattle.rules.specs.Drawn.{Few-borne}
 use Rattle.rules.proofs.Membership.{lists-none, lists-head, lists-split}
 use Rattle.rules.proofs.Naming.{apart-bytes, Apart, All-borne, pigeons, tag-same, names-length, borne-++}
-use Rattle.laws.specs.Staying.{Same-function}
 use Rattle.laws.proofs.Ways.{promoting, promote-ways, close-ways, emit-ways}
-use Rattle.laws.proofs.Groups.{collect-on, emit-on, close-on}
+use Rattle.laws.proofs.Groups.{collect-on, emit-on}
 use Rattle.laws.proofs.Onward.{walked-on}
 use Rattle.laws.proofs.Staying.{tag-above}
-use Rattle.laws.proofs.Reports.{Quiet, collect-quiet, prepare-quiet}
+use Rattle.laws.proofs.Reports.{collect-quiet, prepare-quiet}
 use Rattle.laws.proofs.Naming.{passed-tags, walk-few-borne}
 
 -- What was known stays known.

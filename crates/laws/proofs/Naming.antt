@@ -1,24 +1,21 @@
 -- Made names are the first that are not seen, tags the first that nothing bears.
 use Prim.Native.Nat.{ℕ, zero, suc, _+_, _<_, _≤_}
 use native.Mathlib.Omega.{arith}
-use mathlib.Core.Path.{_≡_, refl, sym, ap, _∙_, subst}
-use mathlib.Core.Logic.{_⊎_, inl, inr}
-use mathlib.Core.Bool.{Bool, true, false, _||_}
+use mathlib.Core.Path.{_≡_, refl, sym, _∙_, subst}
+use mathlib.Core.Logic.{inl, inr}
+use mathlib.Core.Bool.{Bool, true, false}
 use mathlib.Core.List.{List, [], _∷_, _++_}
 use lib.ListN.{length, length-append}
 use Rattle.std.proofs.shelf.Tests.{cases-bool, cases-eq, or-cases, or-parts, or-left, or-right}
-use Rattle.rules.specs.Lists.{changed}
-use Rattle.rules.specs.Views.{Bytes, InstructionV, FunctionV, NameV, Hir, with-functions, write}
-use Rattle.rules.specs.Names.{same-bytes, borne, numeral, Made, renamed, generate-name, tag-name, names-of, known, free-tag, next-tag}
-use Rattle.rules.specs.Props.{promote, fresh}
-use Rattle.rules.specs.Emit.{take-tag, outline-function, Report, process-jsx-group}
+use Rattle.rules.specs.Views.{Bytes, InstructionV, FunctionV, Hir}
+use Rattle.rules.specs.Names.{same-bytes, borne, numeral, Made, renamed, tag-name, names-of, known, free-tag, next-tag}
+use Rattle.rules.specs.Emit.{outline-function, process-jsx-group}
 use Rattle.rules.specs.Eliminations.{Meaning}
 use Rattle.rules.specs.Outline.{outline-jsx-impl, depth}
 use Rattle.rules.specs.Drawn.{Few-borne}
-use Rattle.rules.proofs.Naming.{new-free, tag-free, borne-++, same-refl, same-true}
+use Rattle.rules.proofs.Naming.{new-free, tag-free, borne-++}
 use Rattle.rules.proofs.Steps.{pick-true, pick-false}
-use Rattle.laws.specs.Naming.{tried, First-unseen, Made-names-are-new, First-free, Tags-are-free}
-use Rattle.laws.specs.Staying.{Same-function}
+use Rattle.laws.specs.Naming.{tried, Made-names-are-new, First-free, Tags-are-free}
 use Rattle.laws.proofs.Ways.{promote-ways}
 use Rattle.laws.proofs.Groups.{close-on}
 use Rattle.laws.proofs.Onward.{walked-on}

@@ -1,23 +1,20 @@
 -- A relation between stores that every step of the walk keeps holds of the whole walk.
-use Prim.Native.Nat.{ℕ, zero, suc, _+_, _<_, _≤_}
+use Prim.Native.Nat.{ℕ, zero, suc, _+_}
 use native.Mathlib.Omega.{arith}
-use mathlib.Core.Path.{_≡_, refl, sym, ap, _∙_, subst}
-use mathlib.Core.Logic.{_⊎_, inl, inr}
-use mathlib.Core.Bool.{Bool, true, false}
-use mathlib.Core.List.{List, [], _∷_, _++_}
-use lib.ListN.{length, getD}
-use lib.Dec.{eqb}
-use Rattle.rules.specs.Lists.{within, changed, backwards}
-use Rattle.rules.specs.Views.{InstructionV, BlockV, FunctionV, Hir, is-global, is-function, is-element, with-functions, with-rows, with-blocks, function-at, rows-at, with-list}
-use Rattle.rules.specs.Emit.{Outcome, Report, nothing, add, Rewrite, process-jsx-group, done}
+use mathlib.Core.Path.{_≡_, refl, ap, _∙_, subst}
+use mathlib.Core.List.{List, [], _∷_}
+use lib.ListN.{length}
+use Rattle.rules.specs.Lists.{changed, backwards}
+use Rattle.rules.specs.Views.{InstructionV, BlockV, FunctionV, Hir, with-functions, with-rows, with-blocks, function-at, rows-at, with-list}
+use Rattle.rules.specs.Emit.{Outcome, Report, nothing, add, Rewrite, process-jsx-group}
 use Rattle.rules.specs.Eliminations.{listing, Meaning, eliminated}
-use Rattle.rules.specs.Outline.{Walk, process-and-outline-jsx, joined, children, passed, walk-back, rewritten, start-block, finished, walk-block, walk-blocks, outline-jsx-impl}
+use Rattle.rules.specs.Outline.{Walk, process-and-outline-jsx, passed, walk-back, rewritten, start-block, finished, walk-block, walk-blocks, outline-jsx-impl}
 use Rattle.laws.proofs.Ways.{passed-ways}
 use Rattle.laws.specs.Staying.{Same-but-lists, Same-function}
 
 -- Reports.
 
-add-none : (r : Report) → add r nothing ≡ r
+pub add-none : (r : Report) → add r nothing ≡ r
 add-none r =
     let f : r .functions + 0 ≡ r .functions = omega arith in
     let a : r .abandoned + 0 ≡ r .abandoned = omega arith in

@@ -1,24 +1,19 @@
 -- Functions that an accepted call does not walk stay as they were.
-use Prim.Native.Nat.{ℕ, _+_, _<_, _≤_}
+use Prim.Native.Nat.{ℕ}
 use native.Mathlib.Omega.{arith}
-use mathlib.Core.Path.{_≡_, refl}
+use mathlib.Core.Path.{refl}
 use mathlib.Core.Logic.{inl, inr}
-use mathlib.Core.Bool.{true, false}
-use mathlib.Core.List.{List}
 use lib.ListN.{length}
 use Rattle.std.proofs.shelf.Tests.{cases-bool, both-ways}
 use Rattle.rules.specs.Lists.{within}
-use Rattle.rules.specs.Views.{InstructionV, Hir, function-at}
+use Rattle.rules.specs.Views.{Hir, function-at}
 use Rattle.rules.specs.Emit.{Report}
-use Rattle.rules.specs.Eliminations.{Meaning, Lawful}
+use Rattle.rules.specs.Eliminations.{Meaning}
 use Rattle.rules.specs.Outline.{depth}
-use Rattle.rules.specs.Drawn.{Accepts, on-walk}
+use Rattle.rules.specs.Drawn.{on-walk}
 use Rattle.laws.specs.Staying.{What-is-outside-stays}
-use Rattle.laws.specs.Allowances.{Counts, Price}
-use Rattle.laws.proofs.Walks.{Kept, Fine, walk-kept}
-
-abbrev free : Price
-free = record { group = λ h o. 0; list = λ rows. 0 }
+use Rattle.laws.specs.Allowances.{Counts}
+use Rattle.laws.proofs.Walks.{free, Kept, Fine, walk-kept}
 
 abbrev Nothing-kept : Hir → Hir → Report → ℕ → Counts → Type 0
 Nothing-kept a b r s c = Unit

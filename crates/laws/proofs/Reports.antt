@@ -1,33 +1,31 @@
 -- The report counts functions, tags and properties exactly.
-use Prim.Native.Nat.{ℕ, zero, suc, _+_, _*_, _/_, _<_, _≤_}
+use Prim.Native.Nat.{ℕ, zero, suc, _+_, _<_, _≤_}
 use native.Mathlib.Omega.{arith}
-use mathlib.Core.Path.{_≡_, refl, sym, ap, ap₂, _∙_, subst}
-use mathlib.Core.Logic.{_⊎_, inl, inr}
+use mathlib.Core.Path.{_≡_, refl, sym, ap, _∙_, subst}
+use mathlib.Core.Logic.{inl, inr}
 use mathlib.Core.Bool.{Bool, true, false}
 use mathlib.Core.List.{List, [], _∷_, _++_, map}
-use lib.ListN.{length, getD, drop, length-append}
+use lib.ListN.{length, drop, length-append}
 use lib.Dec.{eqb}
 use Rattle.std.proofs.shelf.Lists.{getD-push, append-nil, drop-append-le}
 use Rattle.std.proofs.shelf.Tests.{cases-lt, eqb-true}
 use Rattle.rules.specs.Lists.{select, gathered, changed, Lists, here, there}
-use Rattle.rules.specs.Views.{Bytes, PlaceV, InstructionV, FunctionV, NameV, absent, promoted, Hir, is-written, is-element, is-global, function-rows, no-function, function-at, rows-at, results, with-functions, with-blocks, with-rows, with-list, write}
+use Rattle.rules.specs.Views.{Bytes, PlaceV, InstructionV, FunctionV, NameV, Hir, is-written, is-element, is-global, no-function, function-at, rows-at, results, with-functions, with-blocks, with-rows, with-list, write}
 use Rattle.rules.specs.Props.{OutlinedJsxAttribute, promote, fresh, collect-props, Bound}
-use Rattle.rules.specs.Emit.{bound-place, emit-destructure-props, emit-updated-jsx, updated, Prepared, prepare, take-tag, emit-outlined-fn, outline-function, outcome, Report, nothing, add, Rewrite, Outcome, done, emit, process-jsx-group}
-use Rattle.rules.specs.Eliminations.{Meaning, Lawful, listing}
-use Rattle.rules.specs.Outline.{rewritten, outline-jsx-impl, outline-jsx, depth}
-use Rattle.rules.specs.Drawn.{Accepts, on-walk}
+use Rattle.rules.specs.Emit.{bound-place, emit-updated-jsx, updated, Prepared, prepare, take-tag, emit-outlined-fn, Report, nothing, add, emit, process-jsx-group}
+use Rattle.rules.specs.Eliminations.{Meaning, listing}
+use Rattle.rules.specs.Outline.{rewritten, outline-jsx-impl, depth}
 use Rattle.rules.proofs.Membership.{lists-none, lists-head, lists-split}
 use Rattle.rules.proofs.Positions.{length-changed}
 use Rattle.rules.proofs.Steps.{pick-false}
 use Rattle.laws.specs.Staying.{Onward, Same-function}
-use Rattle.laws.specs.Reports.{is-destructure, properties-of, properties-in, Counted, Every-report-counts, Every-property-counted}
-use Rattle.laws.specs.Allowances.{Counts, no-counts, plus, Price}
+use Rattle.laws.specs.Reports.{is-destructure, properties-of, properties-in, Every-report-counts, Every-property-counted}
+use Rattle.laws.specs.Allowances.{Counts, no-counts}
 use Rattle.laws.proofs.Ways.{promote-ways, close-ways, emit-ways}
 use Rattle.laws.proofs.Groups.{collect-on, prepared-on}
 use Rattle.laws.proofs.Onward.{walked-on}
 use Rattle.laws.proofs.Staying.{onward-refl, onward-then, close-onward, relists-onward}
-use Rattle.laws.proofs.Counting.{Le}
-use Rattle.laws.proofs.Walks.{Kept, Fine, Result, walk-kept}
+use Rattle.laws.proofs.Walks.{free, Kept, Fine, walk-kept}
 
 -- Only names and identifiers change.
 pub record Quiet (a b : Hir) : Type 0 where
@@ -188,9 +186,6 @@ module _ (n₀ : ℕ) where
         let w = function-properties t m ms ls j (λ i x. g i (from i x)) in
         (omega arith, omega arith))
 
-  abbrev free : Price
-  free = record { group = λ h o. 0; list = λ rows. 0 }
-
   bound-kept : (m : Meaning) → Kept m n₀ free (λ type rows. Unit) (λ type i. is-global i ≡ true) Bound-by
   bound-kept m = record {
       ok-sub = λ s o. tt;
@@ -220,8 +215,8 @@ drop-all (f ∷ fs) = drop-all fs
 pub every-property-counted : Every-property-counted
 every-property-counted m lawful h f a =
     let n₀ = length (h .functions) in
-    let fine : Fine m lawful n₀ (free n₀) (λ type rows. Unit) (λ type i. is-global i ≡ true) (Bound-by n₀) (bound-kept n₀ m) depth h f = record { distinct = a .once; each = λ g q. (a .used g q, λ j. tt) } in
-    let r = walk-kept m lawful n₀ (free n₀) (λ type rows. Unit) (λ type i. is-global i ≡ true) (Bound-by n₀) (bound-kept n₀ m) depth h f (omega arith) fine .related (omega arith) in
+    let fine : Fine m lawful n₀ free (λ type rows. Unit) (λ type i. is-global i ≡ true) (Bound-by n₀) (bound-kept n₀ m) depth h f = record { distinct = a .once; each = λ g q. (a .used g q, λ j. tt) } in
+    let r = walk-kept m lawful n₀ free (λ type rows. Unit) (λ type i. is-global i ≡ true) (Bound-by n₀) (bound-kept n₀ m) depth h f (omega arith) fine .related (omega arith) in
     let z = drop-all (h .functions) in
     let e = r .1 in
     omega arith

@@ -2,24 +2,23 @@
 use Prim.Native.Nat.{ℕ, zero, suc, _+_, _<_, _≤_}
 use native.Mathlib.Omega.{arith}
 use mathlib.Core.Path.{_≡_, refl, sym, ap, _∙_, subst}
-use mathlib.Core.Logic.{_⊎_, inl, inr}
-use mathlib.Core.Bool.{Bool, true, false}
+use mathlib.Core.Logic.{inl, inr}
+use mathlib.Core.Bool.{Bool}
 use mathlib.Core.List.{List, [], _∷_, _++_, append-assoc}
 use lib.ListN.{length, getD, length-append}
-use lib.Dec.{eqb}
-use Rattle.std.proofs.shelf.Lists.{getD-append-left, getD-push, getD-past, append-nil}
+use Rattle.std.proofs.shelf.Lists.{getD-append-left, getD-push, append-nil}
 use Rattle.std.proofs.shelf.Tests.{cases-bool, cases-eq, cases-lt}
 use Rattle.rules.specs.Lists.{changed}
-use Rattle.rules.specs.Views.{Bytes, InstructionV, BlockV, FunctionV, NameV, absent, named, promoted, IdentifierV, Hir, with-identifiers, with-functions, write, no-function, function-at}
-use Rattle.rules.specs.Names.{temporary, tag-name, known, next-tag, free-tag, borne}
+use Rattle.rules.specs.Views.{Bytes, InstructionV, FunctionV, NameV, promoted, IdentifierV, Hir, with-identifiers, with-functions, write, no-function, function-at}
+use Rattle.rules.specs.Names.{temporary, tag-name, known, next-tag, free-tag}
 use Rattle.rules.specs.Props.{no-identifier, promote, fresh}
 use Rattle.rules.specs.Emit.{take-tag, outline-function, Report, process-jsx-group}
 use Rattle.rules.specs.Eliminations.{Meaning}
 use Rattle.rules.specs.Outline.{outline-jsx-impl, depth}
 use Rattle.rules.proofs.Positions.{length-changed, at-changed, at-other}
 use Rattle.rules.proofs.Steps.{pick-true, pick-false}
-use Rattle.laws.specs.Staying.{Same-function, identifier-at, Same-identifier, Onward, Every-outline-goes-onward}
-use Rattle.laws.proofs.Onward.{function-refl, function-then, walked-on}
+use Rattle.laws.specs.Staying.{Same-function, identifier-at, Same-identifier, Onward, Every-outline-goes-onward, Every-step-goes-onward}
+use Rattle.laws.proofs.Onward.{function-refl, function-then, back-on, blocks-on, walked-on}
 use Rattle.laws.proofs.Ways.{promoting, promote-ways}
 use Rattle.laws.proofs.Groups.{close-on}
 
@@ -174,3 +173,12 @@ free-below (suc k) names n = elim (cases-bool (names (tag-name n))) [
 
 pub tag-below : (h : Hir) → next-tag h ≤ h .mark + length (h .identifiers) + h .used-rows + 2
 tag-below h = let q = free-below (suc (length (h .identifiers) + h .used-rows)) (known h) (suc (h .mark)) in omega arith
+
+abbrev Step-onward : Hir → Hir → Report → Type 0
+Step-onward a b r = Onward a b
+
+pub steps-go-onward : Every-step-goes-onward
+steps-go-onward = record {
+    group = close-onward;
+    rows = λ d m type w is. back-on Step-onward onward-refl (λ a b c r s. onward-then a b c) close-onward relists-onward (outline-jsx-impl d m) (walk-onward d m) (w .hir) type w is (onward-refl (w .hir));
+    blocks = λ n d m f k w. blocks-on Step-onward onward-refl (λ a b c r s. onward-then a b c) close-onward relists-onward (outline-jsx-impl d m) (walk-onward d m) (w .hir) n m f k w (onward-refl (w .hir)) }

@@ -1,28 +1,27 @@
 -- The allowances suffice.
-use Prim.Native.Nat.{ℕ, zero, suc, _+_, _*_, _/_, _<_, _≤_}
+use Prim.Native.Nat.{ℕ, zero, suc, _+_, _<_, _≤_}
 use native.Mathlib.Omega.{arith}
-use mathlib.Core.Path.{_≡_, refl, sym, ap, ap₂, _∙_, subst}
-use mathlib.Core.Logic.{_⊎_, inl, inr}
+use mathlib.Core.Path.{_≡_, refl, sym, ap, _∙_, subst}
+use mathlib.Core.Logic.{inl, inr}
 use mathlib.Core.Bool.{Bool, true, false, _&&_}
-use mathlib.Core.List.{List, [], _∷_, _++_}
+use mathlib.Core.List.{List, [], _∷_}
 use lib.ListN.{length, length-append}
 use lib.Dec.{eqb}
-use Rattle.std.proofs.shelf.Tests.{cases-bool, both-ways, and-parts, eqb-true}
-use Rattle.rules.specs.Lists.{select, gathered, within, changed, Distinct, Lists, here, there, Sublist}
-use Rattle.rules.specs.Views.{InstructionV, BlockV, FunctionV, Hir, is-element, is-global, is-written, identifiers-of, writes, function-rows, block-rows, rows-at, function-at, with-rows, with-blocks, with-list}
-use Rattle.rules.specs.Emit.{Report, nothing, add, Rewrite, Outcome, done}
-use Rattle.rules.specs.Eliminations.{Meaning, Lawful, listing}
+use Rattle.std.proofs.shelf.Tests.{cases-bool, and-parts, eqb-true}
+use Rattle.rules.specs.Lists.{select, gathered, changed, Distinct, Lists, here, there, Sublist}
+use Rattle.rules.specs.Views.{InstructionV, FunctionV, Hir, is-element, is-written, identifiers-of, writes, block-rows, rows-at, function-at, with-rows, with-blocks, with-list}
+use Rattle.rules.specs.Emit.{Rewrite}
+use Rattle.rules.specs.Eliminations.{Meaning, listing}
 use Rattle.rules.specs.Outline.{rewritten-row, rewritten, outline-jsx, depth}
 use Rattle.rules.specs.Drawn.{Accepts, on-walk}
 use Rattle.rules.proofs.Blocks.{listing-length, block-distinct}
-use Rattle.rules.proofs.Membership.{In, Out, in-out, in-left, in-head, in-gathered, out-parts, distinct-right, distinct-apart, lists-none, lists-head}
+use Rattle.rules.proofs.Membership.{In, Out, in-out, in-head, out-parts, distinct-right, distinct-apart}
 use Rattle.rules.proofs.Positions.{length-changed, block-lists}
 use Rattle.rules.proofs.Steps.{pick-true, pick-false}
 use Rattle.rules.proofs.Sublists.{sub-lists, sub-distinct, sub-gathered}
-use Rattle.laws.specs.Allowances.{Counts, plus, rows-counts, walk-counts, identifiers-allowed, instructions-allowed, numbers-allowed, places-allowed, blocks-allowed, functions-allowed, Price, takes, numbers, places, Formed, Walk-formed, blocks-in, Of-every-walk, Identifiers-suffice, Instructions-suffice, Blocks-suffice, Functions-suffice, Numbers-suffice, Places-suffice}
-use Rattle.laws.proofs.Counting.{Le, pair, new-list}
-use Rattle.laws.proofs.Walks.{Kept, Fine, Result, walk-kept}
-use Rattle.laws.proofs.Costs.{All-formed, Group-cost, group-cost}
+use Rattle.laws.specs.Allowances.{Counts, walk-counts, identifiers-allowed, instructions-allowed, numbers-allowed, places-allowed, blocks-allowed, functions-allowed, numbers, places, Walk-formed, blocks-in, Of-every-walk, Identifiers-suffice, Instructions-suffice, Blocks-suffice, Functions-suffice, Numbers-suffice, Places-suffice}
+use Rattle.laws.proofs.Walks.{free, Kept, walk-kept}
+use Rattle.laws.proofs.Costs.{All-formed, group-cost}
 
 -- A block's new list has a row more for each call.
 
@@ -118,9 +117,6 @@ blocks-changed Fn e zero [] = refl
 blocks-changed Fn e (suc f) [] = refl
 blocks-changed Fn e zero (g ∷ fs) = let q = e g in omega arith
 blocks-changed Fn e (suc f) (g ∷ fs) = let q = blocks-changed Fn e f fs in omega arith
-
-abbrev free : Price
-free = record { group = λ h o. 0; list = λ rows. 0 }
 
 shown-kept : (m : Meaning) (n₀ : ℕ) → Kept m n₀ free Ok Load-ok (λ a b r s c. Shown a b c)
 shown-kept m n₀ = record {

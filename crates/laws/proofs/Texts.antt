@@ -2,15 +2,15 @@
 use Prim.Native.Nat.{ℕ, zero, suc, _+_, _*_, _/_, _%_, _^_, _<_, _≤_}
 use native.Mathlib.Omega.{arith}
 use native.Mathlib.Nat.{pow-suc}
-use mathlib.Core.Path.{_≡_, refl, sym, ap, _∙_, subst}
-use mathlib.Core.Logic.{_⊎_, inl, inr}
-use mathlib.Core.Bool.{Bool, true, false, cond, _&&_, not}
+use mathlib.Core.Path.{_≡_, refl, ap, _∙_}
+use mathlib.Core.Logic.{inl, inr}
+use mathlib.Core.Bool.{true, false, cond, not}
 use mathlib.Core.List.{List, [], _∷_, _++_}
 use lib.ListN.{length, getD, length-append}
 use lib.Dec.{eqb, ltb}
 use Rattle.std.proofs.shelf.Lists.{getD-past}
 use Rattle.std.proofs.shelf.Tests.{cases-bool, cases-lt, ltb-false, and-parts}
-use Rattle.rules.specs.Lists.{select, within, changed, Lists, here, there}
+use Rattle.rules.specs.Lists.{select, within, changed, here, there}
 use Rattle.rules.specs.Views.{Bytes, PlaceV, InstructionV, absent, promoted, IdentifierV, Hir, role-is, results, write}
 use Rattle.rules.specs.Names.{same-bytes, borne, spell, t-name, digits-of, numeral, temporary, tag-temporary, Made, renamed, generate-name, tag-name, next-tag}
 use Rattle.rules.specs.Props.{OutlinedJsxAttribute, Gathering, write-changed, no-identifier, promote, gather-place, gather, start-gathering, collect-props, fresh, create-old-to-new-props-mapping}

@@ -2,32 +2,33 @@
 use Prim.Native.Nat.{ℕ, zero, suc, _+_, _*_, _/_, _<_, _≤_}
 use native.Mathlib.Omega.{arith}
 use mathlib.Core.Path.{_≡_, refl, sym, ap, ap₂, _∙_, subst}
-use mathlib.Core.Logic.{_⊎_, inl, inr}
-use mathlib.Core.Bool.{Bool, true, false, _||_}
+use mathlib.Core.Logic.{inl, inr}
+use mathlib.Core.Bool.{true, false}
 use mathlib.Core.List.{List, [], _∷_, _++_, append-assoc}
 use lib.ListN.{length, drop, length-append}
 use lib.Dec.{eqb}
 use Rattle.std.specs.declared.option.Option.{Option}
 use Rattle.std.specs.declared.option.Option.the-variants.{Some, None}
-use Rattle.std.proofs.shelf.Tests.{or-cases, or-right, both-ways, eqb-true, cases-bool, cases-eq}
+use Rattle.std.proofs.shelf.Tests.{or-right, both-ways, eqb-true, cases-bool}
 use Rattle.rules.specs.Lists.{Sublist, ends, keeps, skips, within, gathered, changed, backwards, Lists, here, there, Distinct}
-use Rattle.rules.specs.Views.{still-read, InstructionV, BlockV, FunctionV, Hir, is-element, is-global, is-function, function-at, no-function, block-rows, rows-at, with-rows, with-blocks, with-functions, with-list}
+use Rattle.rules.specs.Views.{still-read, InstructionV, BlockV, FunctionV, Hir, is-element, is-global, is-function, function-at, no-function, block-rows, rows-at, with-rows, with-blocks, with-list}
 use Rattle.rules.specs.Props.{OutlinedJsxAttribute, collect-props}
-use Rattle.rules.specs.Emit.{Rewrite, Outcome, Report, nothing, add, done, Prepared, prepare, outcome, emit, emit-load-globals, tag-places, process-jsx-group}
+use Rattle.rules.specs.Emit.{Rewrite, Report, nothing, add, done, Prepared, prepare, outcome, emit-load-globals, tag-places, process-jsx-group}
 use Rattle.rules.specs.Eliminations.{listing, Meaning, Lawful, Thinned-all, no-block, block, eliminated}
-use Rattle.rules.specs.Outline.{Walk, rewritten, children, process-and-outline-jsx, joined, passed, walk-back, start-block, finished, walk-block, walk-blocks, outline-jsx-impl}
+use Rattle.rules.specs.Outline.{Walk, rewritten, process-and-outline-jsx, joined, passed, walk-back, start-block, finished, walk-block, walk-blocks, outline-jsx-impl}
 use Rattle.rules.specs.Drawn.{inner, inner-of, on-walk}
 use Rattle.rules.proofs.Blocks.{changed-there, listing-length, later-changed, later-thinned, later-split}
 use Rattle.rules.proofs.Reached.{same-walk}
-use Rattle.rules.proofs.Membership.{out-if, In, Out, in-out, in-left, in-right, in-head, out-parts, distinct-left, distinct-right, distinct-apart, gathered-++, lists-none, lists-head, lists-left, lists-right, lists-split}
+use Rattle.rules.proofs.Membership.{out-if, In, Out, in-out, in-left, in-right, in-head, out-parts, distinct-left, distinct-apart, gathered-++, lists-none, lists-head, lists-right, lists-split}
 use Rattle.rules.proofs.Positions.{backwards-twice, length-changed, at-changed, at-other}
 use Rattle.rules.proofs.Steps.{pick-true, pick-false}
-use Rattle.rules.proofs.Sublists.{sub-refl, sub-empty, sub-front, sub-lists, sub-in, sub-out, sub-distinct, sub-gathered, append-none, thinned-sub, sub-trans}
+use Rattle.rules.proofs.Sublists.{sub-refl, sub-empty, sub-front, sub-in, sub-out, sub-distinct, sub-gathered, append-none, thinned-sub, sub-trans}
 use Rattle.rules.proofs.Thinning.{thinned-block}
-use Rattle.laws.specs.Allowances.{Counts, no-counts, plus, row-counts, rows-counts, block-counts, blocks-counts, outside-components, function-counts, tally, walk-counts, Price, closing, passing, going-back, relisting, block-takes, blocks-take, takes}
+use Rattle.laws.specs.Allowances.{Counts, no-counts, plus, row-counts, rows-counts, block-counts, blocks-counts, outside-components, function-counts, tally, walk-counts, Price, passing, going-back, relisting, block-takes, blocks-take, takes}
+use Rattle.laws.proofs.Onward.{add-none}
 use Rattle.laws.proofs.Staying.{close-onward, close-keeps}
 use Rattle.laws.proofs.Ways.{close-ways, with-load, with-outcome, passed-ways, passing-ways}
-use Rattle.laws.proofs.Counting.{Le, le-refl, le-same, le-trans, le-plus, le-none, pair, new-list, row-yes, rows-sub, rows-backwards, block-sub, block-share, block-listed, outside-le, outside-two, tally-++, tally-sub}
+use Rattle.laws.proofs.Counting.{Le, le-refl, le-same, le-trans, le-plus, le-none, pair, new-list, row-yes, rows-backwards, block-sub, block-share, block-listed, outside-le, outside-two, tally-++, tally-sub}
 
 tally-same : (a b : ℕ → Counts) (xs : List ℕ) → ((x : ℕ) → In x xs → a x ≡ b x) → tally a xs ≡ tally b xs
 tally-same a b [] h = refl
@@ -116,14 +117,9 @@ pub record Kept (m : Meaning) (n₀ : ℕ) (p : Price) (Ok : ℕ → List Instru
   pub relists : (h : Hir) (f k : ℕ) (w : Rewrite) (ws : List Rewrite) → f < n₀ → n₀ ≤ length (h .functions) → (type : ℕ) → eqb type 0 ≡ false → Ok type (rows-at h f k) → ((v : Rewrite) → Lists (w ∷ ws) v → length (v .rows) ≡ 2) → 2 * length (w ∷ ws) ≤ rows-counts (rows-at h f k) .elements
       → R h (eliminated m (with-list h f k (rewritten (w ∷ ws) (rows-at h f k))) f) nothing (p .list (rewritten (w ∷ ws) (rows-at h f k))) (new-list (length (rows-at h f k) + rows-counts (rows-at h f k) .elements / 2))
 
-add-none : (r : Report) → add r nothing ≡ r
-add-none r =
-    let f : r .functions + 0 ≡ r .functions = omega arith in
-    let a : r .abandoned + 0 ≡ r .abandoned = omega arith in
-    let q : r .properties + 0 ≡ r .properties = omega arith in
-    ap (λ (n : ℕ). record { functions = n; abandoned = r .abandoned + 0; properties = r .properties + 0 }) f
-    ∙ ap (λ (n : ℕ). record { functions = r .functions; abandoned = n; properties = r .properties + 0 }) a
-    ∙ ap (λ (n : ℕ). record { functions = r .functions; abandoned = r .abandoned; properties = n }) q
+-- what is not counted costs nothing
+abbrev pub free : Price
+free = record { group = λ h o. 0; list = λ rows. 0 }
 
 module _ (m : Meaning) (lawful : Lawful m) (n₀ : ℕ) (p : Price) (Ok : ℕ → List InstructionV → Type 0) (Load-ok : ℕ → InstructionV → Type 0) (R : Hir → Hir → Report → ℕ → Counts → Type 0) (kept : Kept m n₀ p Ok Load-ok R) where
   resum : {a b : Hir} {r : Report} {u : Counts} (x y : ℕ) → x ≡ y → R a b r x u → R a b r y u

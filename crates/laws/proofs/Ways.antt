@@ -1,9 +1,9 @@
 -- The ways through one step of the rules, each with what its tests said.
-use Prim.Native.Nat.{ℕ, zero, suc, _+_, _<_, _≤_}
+use Prim.Native.Nat.{ℕ, suc}
 use mathlib.Core.Path.{_≡_, refl, sym, ap, ap₂, _∙_, subst}
 use mathlib.Core.Logic.{_⊎_, inl, inr}
 use mathlib.Core.Bool.{Bool, true, false, _&&_, not}
-use mathlib.Core.List.{List, [], _∷_, _++_}
+use mathlib.Core.List.{List, [], _∷_}
 use lib.ListN.{length, getD}
 use lib.Dec.{eqb}
 use Rattle.std.specs.declared.option.Option.{Option}
@@ -12,10 +12,10 @@ use Rattle.std.proofs.shelf.Tests.{cases-bool}
 use Rattle.rules.proofs.Membership.{lists-head}
 use Rattle.rules.proofs.Steps.{pick-true, pick-false}
 use Rattle.rules.specs.Lists.{within, changed, Lists, here, there}
-use Rattle.rules.specs.Views.{Bytes, PlaceV, InstructionV, NameV, absent, named, promoted, IdentifierV, Hir, role-is, is-global, is-function, is-element, with-identifiers, write}
+use Rattle.rules.specs.Views.{PlaceV, InstructionV, absent, named, promoted, IdentifierV, Hir, role-is, is-global, is-function, is-element, with-identifiers, write}
 use Rattle.rules.specs.Names.{temporary}
-use Rattle.rules.specs.Props.{OutlinedJsxAttribute, Gathering, no-identifier, promote, enter-attribute, enter-child, end, gather-place, collect-props, fresh, is-key-entry, Bound, put, Mapping, bind-entries}
-use Rattle.rules.specs.Emit.{find-global, emit-load-globals, tag-places, Prepared, prepare, outcome, Outcome, done, emit, process-jsx-group, add}
+use Rattle.rules.specs.Props.{OutlinedJsxAttribute, Gathering, no-identifier, promote, enter-attribute, enter-child, end, gather-place, collect-props, fresh, is-key-entry, put, Mapping, bind-entries}
+use Rattle.rules.specs.Emit.{find-global, emit-load-globals, tag-places, prepare, outcome, Outcome, done, emit, process-jsx-group, add}
 use Rattle.rules.specs.Outline.{Walk, children, process-and-outline-jsx, joined, passed}
 use Rattle.laws.specs.Allowances.{Price, closing, passing}
 

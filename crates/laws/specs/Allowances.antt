@@ -1,12 +1,12 @@
 -- How much an outline may take of each table, counted beforehand on the functions that it walks.
-use Prim.Native.Nat.{ℕ, zero, suc, _+_, _-_, _*_, _/_, _<_, _≤_}
+use Prim.Native.Nat.{ℕ, zero, suc, _+_, _*_, _/_, _≤_}
 use mathlib.Core.Path.{_≡_}
-use mathlib.Core.Bool.{Bool, true, false}
-use mathlib.Core.List.{List, [], _∷_, _++_}
+use mathlib.Core.Bool.{true, false}
+use mathlib.Core.List.{List, [], _∷_}
 use lib.ListN.{length}
 use lib.Dec.{eqb, leb}
 use Rattle.rules.specs.Lists.{select, gathered, backwards, within, Lists}
-use Rattle.rules.specs.Views.{Bytes, PlaceV, InstructionV, BlockV, FunctionV, Hir, role-is, is-element, is-global, is-function, function-rows, function-at, rows-at}
+use Rattle.rules.specs.Views.{PlaceV, InstructionV, BlockV, FunctionV, Hir, role-is, is-element, is-global, is-function, function-rows, function-at, rows-at}
 use Rattle.rules.specs.Names.{spell}
 use Rattle.rules.specs.Emit.{Rewrite, Outcome, nothing, process-jsx-group}
 use Rattle.rules.specs.Eliminations.{Meaning, Lawful}

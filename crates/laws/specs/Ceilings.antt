@@ -1,7 +1,5 @@
 -- How far an outline can go on a store within the limits.
-use Prim.Native.Nat.{ℕ, _+_, _*_, _^_, _<_, _≤_}
-use mathlib.Core.Path.{_≡_}
-use mathlib.Core.List.{List}
+use Prim.Native.Nat.{ℕ, _+_, _^_, _<_, _≤_}
 use lib.ListN.{length}
 use Rattle.rules.specs.Views.{Hir}
 use Rattle.rules.specs.Eliminations.{Meaning}

@@ -3,3 +3,4 @@ pub mod Allowances
 pub mod Reports
 pub mod Ceilings
 pub mod Naming
+pub mod Worked

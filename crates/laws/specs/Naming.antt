@@ -1,8 +1,8 @@
 -- What made names and tags are.
 use Prim.Native.Nat.{ℕ, zero, suc, _+_, _<_, _≤_}
 use mathlib.Core.Path.{_≡_}
-use mathlib.Core.Bool.{Bool, true, false}
-use mathlib.Core.List.{List, [], _∷_, _++_}
+use mathlib.Core.Bool.{true, false}
+use mathlib.Core.List.{List, _++_}
 use lib.ListN.{length}
 use Rattle.rules.specs.Views.{Bytes, Hir}
 use Rattle.rules.specs.Names.{borne, numeral, Made, generate-name, tag-name, names-of, known, next-tag}

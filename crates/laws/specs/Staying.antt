@@ -1,5 +1,5 @@
 -- What an outline leaves as it was.
-use Prim.Native.Nat.{ℕ, zero, suc, _+_, _<_, _≤_}
+use Prim.Native.Nat.{ℕ, _+_, _<_, _≤_}
 use mathlib.Core.Path.{_≡_}
 use mathlib.Core.Logic.{_⊎_}
 use mathlib.Core.Bool.{Bool, true, false, not}
@@ -7,11 +7,12 @@ use lib.Dec.{ltb}
 use mathlib.Core.List.{List, [], _∷_, _++_}
 use lib.ListN.{length, getD}
 use Rattle.rules.specs.Lists.{within}
-use Rattle.rules.specs.Views.{Bytes, BlockV, FunctionV, NameV, absent, named, promoted, IdentifierV, Hir, with-rows, with-blocks, function-at}
+use Rattle.rules.specs.Views.{Bytes, InstructionV, BlockV, FunctionV, absent, promoted, IdentifierV, Hir, with-rows, with-blocks, function-at}
 use Rattle.rules.specs.Names.{temporary}
 use Rattle.rules.specs.Props.{no-identifier}
+use Rattle.rules.specs.Emit.{process-jsx-group}
 use Rattle.rules.specs.Eliminations.{Meaning, Lawful}
-use Rattle.rules.specs.Outline.{depth, outline-jsx, outline-jsx-impl}
+use Rattle.rules.specs.Outline.{Walk, walk-back, walk-blocks, outline-jsx-impl, outline-jsx, depth}
 use Rattle.rules.specs.Drawn.{Accepts, on-walk}
 
 -- The blocks are as they were but for their lists: kinds, terminals, details, terminal places and predecessors stay.
@@ -59,6 +60,13 @@ pub record Onward (h h′ : Hir) : Type 0 where
 
 abbrev pub Every-outline-goes-onward : Type 0
 Every-outline-goes-onward = (m : Meaning) (h : Hir) (f : ℕ) → Onward h (outline-jsx m h f .hir)
+
+-- So does every part of it: a group, the rows still to be passed of a block, the blocks still to be walked. What is used at any moment
+-- is within what is used in the end.
+pub record Every-step-goes-onward : Type 0 where
+  pub group : (type : ℕ) (globals members : List InstructionV) (h : Hir) → Onward h (process-jsx-group type globals members h .hir)
+  pub rows : (d : ℕ) (m : Meaning) (type : ℕ) (w : Walk) (rows : List InstructionV) → Onward (w .hir) (walk-back (outline-jsx-impl d m) type w rows .hir)
+  pub blocks : (n d : ℕ) (m : Meaning) (f k : ℕ) (w : Walk) → Onward (w .hir) (walk-blocks n m (outline-jsx-impl d m) f k w .hir)
 
 -- Under a lawful elimination, a function that an accepted call does not walk is as it was; all that were appended earlier are such.
 pub record Outside-stays (h : Hir) (f : ℕ) (h′ : Hir) : Type 0 where

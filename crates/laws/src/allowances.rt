@@ -4,7 +4,9 @@ ghost use mathlib.Core.Path.{_≡_};
 ghost use Prim.Native.Nat.{_^_, _<_};
 ghost use Rattle.laws.specs.Allowances.{pairs-of, listed-of, identifiers-allowance, instructions-allowance, numbers-allowance, places-allowance, blocks-allowance, functions-allowance, text-allowance};
 ghost use Rattle.laws.specs.Allowances.{Identifiers-suffice, Instructions-suffice, Numbers-suffice, Places-suffice, Blocks-suffice, Functions-suffice};
+ghost use Rattle.laws.specs.Allowances.{identifiers-allowed};
 ghost use Rattle.laws.specs.Ceilings.{Text-suffices};
+ghost use Rattle.laws.specs.Worked.{tile-counts, Worked-allowances};
 
 // The most groups of two or more that a block's elements make.
 pub fn pairs_of(elements: u64) -> u64
@@ -72,4 +74,12 @@ pub fn text_allowance(letters: u64, attributes: u64, children: u64, pairs: u64) 
     ensures suffices { λ _. ⌜ Text-suffices ⌝ }
 {
     letters + 10 * attributes + 23 * children + 39 * pairs
+}
+
+// The identifiers that the worked tile is allowed; and its other allowances, with what its outline takes.
+pub fn worked_allowance() -> u64
+    ensures tile { λ r. ⌜ r ≡ identifiers-allowed tile-counts ⌝ }
+    ensures worked { λ _. ⌜ Worked-allowances ⌝ }
+{
+    7
 }

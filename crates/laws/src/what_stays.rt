@@ -1,14 +1,14 @@
 // What an outline leaves as it was, and what its report counts.
 ghost use mathlib.Core.Path.{_≡_};
 ghost use Prim.Native.Nat.{_+_};
-ghost use Rattle.laws.specs.Staying.{is-old, stays-whole, Every-outline-goes-onward, What-is-outside-stays};
+ghost use Rattle.laws.specs.Staying.{is-old, stays-whole, Every-outline-goes-onward, Every-step-goes-onward, What-is-outside-stays};
 ghost use Rattle.laws.specs.Reports.{tags-of, Every-report-counts, Every-property-counted};
 
 // Whether a number was used before: by it then stands what stood by it, but for the lists of blocks and for names of unnamed
 // identifiers.
 pub fn is_old(number: u32, used: u32) -> bool
     ensures used { λ r. ⌜ r ≡ is-old number used ⌝ }
-    ensures onward { λ _. ⌜ Every-outline-goes-onward ⌝ }
+    ensures onward { λ _. ⌜ Every-outline-goes-onward ⌝ ∗ ⌜ Every-step-goes-onward ⌝ }
 {
     number < used
 }
