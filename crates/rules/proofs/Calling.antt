@@ -32,7 +32,6 @@ no-calls own x = None
 abbrev pub calls : {V : Type 0} → Reading V → (ℕ → V) → List FunctionV → Lookup V
 calls r e fs = with-calls r e no-calls fs
 
-
 -- running a block with them
 abbrev pub run-folded : {V : Type 0} → Reading V → Hir → ℕ → ℕ → (ℕ → V) → State V
 run-folded r h f k e = runs r (calls r e (h .functions) (function-rows (function-at h f))) None (from-start e) (rows-at h f k)
@@ -55,15 +54,18 @@ module _ {V : Type 0} (r : Reading V) (e : ℕ → V) where
   calls-respects fs = with-calls-respects no-calls fs (λ own own′ x q. refl)
 
 -- a property of every name that is loaded
-pub loaded-all : (P : Option Bytes → Type 0) (own : List InstructionV) (x : ℕ) → P None → ((i : InstructionV) → Lists own i → is-global i ≡ true → P (i .name)) → P (loaded own x)
+pub loaded-all : (P : Option Bytes → Type 0) (own : List InstructionV) (x : ℕ) → P None
+    → ((i : InstructionV) → Lists own i → is-global i ≡ true → P (i .name)) → P (loaded own x)
 loaded-all P [] x n f = n
 loaded-all P (i ∷ is) x n f =
     (elim (is-global i && eqb (i .result .identifier) x) as (λ t. (is-global i && eqb (i .result .identifier) x) ≡ t → P (elim t [ true ↦ i .name | false ↦ loaded is x ])) [
-      true ↦ λ h. f i here (and-parts (is-global i) (eqb (i .result .identifier) x) h .0)
-    | false ↦ λ _. loaded-all P is x n (λ j l. f j (there l)) ]) refl
+      | true ↦ λ h. f i here (and-parts (is-global i) (eqb (i .result .identifier) x) h .0)
+      | false ↦ λ _. loaded-all P is x n (λ j l. f j (there l))
+    ]) refl
 
 -- a name that is loaded is borne
-pub borne-loaded : (own : List InstructionV) (gs : Bytes → Bool) (x : ℕ) → ((i : InstructionV) → Lists own i → is-global i ≡ true → Borne (i .name) gs) → Borne (loaded own x) gs
+pub borne-loaded : (own : List InstructionV) (gs : Bytes → Bool) (x : ℕ)
+    → ((i : InstructionV) → Lists own i → is-global i ≡ true → Borne (i .name) gs) → Borne (loaded own x) gs
 borne-loaded own gs x f = loaded-all (λ n. Borne n gs) own x tt f
 
 pub plain-no-tag : (g : FunctionV) (n : Option Bytes) → g .appended ≡ false → has-tag g n ≡ false
@@ -86,21 +88,24 @@ has-tag-known g (Some n) gs f h = go (g .tag) refl
 pub new-tag-apart : (g : FunctionV) (tag : Bytes) (gs : Bytes → Bool) (n : Option Bytes) → g .tag ≡ Some tag → gs tag ≡ false → Borne n gs → has-tag g n ≡ false
 new-tag-apart g tag gs None t o b = refl
 new-tag-apart g tag gs (Some n) t o b = and-right (g .appended) (same-name (g .tag) (Some n)) (elim (cases-bool (same-bytes tag n)) [
-    inl e ↦ absurd (both-ways (gs tag) o (subst (λ z. gs z ≡ true) (sym (same-true tag n e)) b))
-  | inr e ↦ ap (λ (z : Option Bytes). same-name z (Some n)) t ∙ e ])
+  | inl e ↦ absurd (both-ways (gs tag) o (subst (λ z. gs z ≡ true) (sym (same-true tag n e)) b))
+  | inr e ↦ ap (λ (z : Option Bytes). same-name z (Some n)) t ∙ e
+])
 
 module _ {V : Type 0} (r : Reading V) (e : ℕ → V) where
   plain-function : (l : Lookup V) (g : FunctionV) → g .appended ≡ false → with-call r e l g ≡ l
   plain-function l g h = fun-ext (λ own. fun-ext (λ x. pick-false (has-tag g (loaded own x)) (Some (given-by r e l g)) (l own x) (plain-no-tag g (loaded own x) h)))
 
-  with-changed : (F : FunctionV → FunctionV) → ((g : FunctionV) → F g .appended ≡ g .appended) → (l : Lookup V) (f : ℕ) (fs : List FunctionV) → getD fs f no-function .appended ≡ false → with-calls r e l (changed F f fs) ≡ with-calls r e l fs
+  with-changed : (F : FunctionV → FunctionV) → ((g : FunctionV) → F g .appended ≡ g .appended) → (l : Lookup V) (f : ℕ) (fs : List FunctionV)
+      → getD fs f no-function .appended ≡ false → with-calls r e l (changed F f fs) ≡ with-calls r e l fs
   with-changed F k l zero [] h = refl
   with-changed F k l (suc f) [] h = refl
   with-changed F k l zero (g ∷ fs) h = ap (λ (z : Lookup V). with-calls r e z fs) (plain-function l (F g) (k g ∙ h) ∙ sym (plain-function l g h))
   with-changed F k l (suc f) (g ∷ fs) h = with-changed F k (with-call r e l g) f fs h
 
   -- changing a function that is not appended changes no call
-  pub calls-changed : (F : FunctionV → FunctionV) → ((g : FunctionV) → F g .appended ≡ g .appended) → (f : ℕ) (fs : List FunctionV) → getD fs f no-function .appended ≡ false → calls r e (changed F f fs) ≡ calls r e fs
+  pub calls-changed : (F : FunctionV → FunctionV) → ((g : FunctionV) → F g .appended ≡ g .appended) → (f : ℕ) (fs : List FunctionV)
+      → getD fs f no-function .appended ≡ false → calls r e (changed F f fs) ≡ calls r e fs
   calls-changed F k f fs h = with-changed F k no-calls f fs h
 
   -- the last function appended
@@ -108,8 +113,10 @@ module _ {V : Type 0} (r : Reading V) (e : ℕ → V) where
   with-snoc l [] g = refl
   with-snoc l (f ∷ fs) g = with-snoc (with-call r e l f) fs g
 
-  pub calls-append : (fs : List FunctionV) (g : FunctionV) (own : List InstructionV) (x : ℕ) → has-tag g (loaded own x) ≡ false → calls r e (fs ++ (g ∷ [])) own x ≡ calls r e fs own x
+  pub calls-append : (fs : List FunctionV) (g : FunctionV) (own : List InstructionV) (x : ℕ) → has-tag g (loaded own x) ≡ false
+      → calls r e (fs ++ (g ∷ [])) own x ≡ calls r e fs own x
   calls-append fs g own x h = ap (λ (l : Lookup V). l own x) (with-snoc no-calls fs g) ∙ pick-false (has-tag g (loaded own x)) (Some (given-by r e (calls r e fs) g)) (calls r e fs own x) h
 
-  pub calls-last : (fs : List FunctionV) (g : FunctionV) (own : List InstructionV) (x : ℕ) → has-tag g (loaded own x) ≡ true → calls r e (fs ++ (g ∷ [])) own x ≡ Some (given-by r e (calls r e fs) g)
+  pub calls-last : (fs : List FunctionV) (g : FunctionV) (own : List InstructionV) (x : ℕ) → has-tag g (loaded own x) ≡ true
+      → calls r e (fs ++ (g ∷ [])) own x ≡ Some (given-by r e (calls r e fs) g)
   calls-last fs g own x h = ap (λ (l : Lookup V). l own x) (with-snoc no-calls fs g) ∙ pick-true (has-tag g (loaded own x)) (Some (given-by r e (calls r e fs) g)) (calls r e fs own x) h

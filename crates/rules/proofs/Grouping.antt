@@ -44,7 +44,7 @@ bound-grown h es =
     let param = length (bound .hir .identifiers) in
     let h₁ = fresh (bound .hir) (promoted (temporary param)) in
     grown-then (bind-grown (record { hir = with-load h; table = [] }) es)
-      (grown-then (fresh-grown (bound .hir) (promoted (temporary param))) (grown-then (write-grown h₁ (temporary param)) (fresh-grown (write h₁ (temporary param)) absent)))
+    (grown-then (fresh-grown (bound .hir) (promoted (temporary param))) (grown-then (write-grown h₁ (temporary param)) (fresh-grown (write h₁ (temporary param)) absent)))
 
 pub prepare-grown : (h : Hir) (es : List OutlinedJsxAttribute) → Grown h (prepare h es .hir)
 prepare-grown h es =
@@ -61,29 +61,32 @@ prepare-load h es =
 module _ {V : Type 0} (r : Reading V) (F : Hir) (f k : ℕ) (own rows : List InstructionV) (size : ℕ)
     (distinct : Distinct (gathered writes rows)) (ordered : Ordered rows)
     (small : (i : InstructionV) → Lists rows i → (x : ℕ) → In x (reads i ++ writes i) → x < size) where
-
   -- a load among the globals
   pub record Known (l : InstructionV) : Type 0 where
     pub global : is-global l ≡ true
     pub name : In (l .result .identifier) (gathered reads rows) → loaded own (l .result .identifier) ≡ l .name
-    pub place : In (l .result .identifier) (gathered reads rows) → Lists rows l ⊎ (Out (l .result .identifier) (gathered writes rows) × ((e : ℕ → V) → Admitted r F f k e → e (l .result .identifier) ≡ r .global (l .name) (l .detail)))
+    pub place : In (l .result .identifier) (gathered reads rows)
+        → Lists rows l ⊎ (Out (l .result .identifier) (gathered writes rows) × ((e : ℕ → V) → Admitted r F f k e → e (l .result .identifier) ≡ r .global (l .name) (l .detail)))
 
   -- so at a cut of the block it has its value
-  load-right : (e : ℕ → V) → Admitted r F f k e → (c : Calls V) (before rest : List InstructionV) → rows ≡ before ++ rest → (l : InstructionV) → Known l → Out (l .result .identifier) (gathered writes rest) → In (l .result .identifier) (gathered reads rows) → runs r c None (from-start e) before .value (l .result .identifier) ≡ r .global (l .name) (l .detail)
+  load-right : (e : ℕ → V) → Admitted r F f k e → (c : Calls V) (before rest : List InstructionV) → rows ≡ before ++ rest → (l : InstructionV)
+      → Known l → Out (l .result .identifier) (gathered writes rest) → In (l .result .identifier) (gathered reads rows)
+      → runs r c None (from-start e) before .value (l .result .identifier) ≡ r .global (l .name) (l .detail)
   load-right e a c before rest eq l kn o i =
       let x = l .result .identifier in
       let d : Distinct (gathered writes before ++ gathered writes rest) = subst (λ (z : List ℕ). Distinct z) (gathered-++ writes before rest) (subst (λ (z : List InstructionV). Distinct (gathered writes z)) eq distinct) in
       elim (kn .place i) [
-        inl p ↦ elim (lists-split before (subst (λ (z : List InstructionV). Lists z l) eq p)) [
-            inl q ↦ settled-load r c (from-start e) q (kn .global) (distinct-left (gathered writes before) (gathered writes rest) d)
-          | inr q ↦ in-out x (gathered writes rest) (in-gathered writes x q (in-head x (identifiers-of (select is-written (l .places))))) o ]
-      | inr p ↦ runs-out r c None (from-start e) before x (out-parts x (gathered writes before) (gathered writes rest) (subst (λ (z : List ℕ). Out x z) (gathered-++ writes before rest) (subst (λ (z : List InstructionV). Out x (gathered writes z)) eq (p .0))) .0) ∙ p .1 e a ]
+        | inl p ↦ elim (lists-split before (subst (λ (z : List InstructionV). Lists z l) eq p)) [
+          | inl q ↦ settled-load r c (from-start e) q (kn .global) (distinct-left (gathered writes before) (gathered writes rest) d)
+          | inr q ↦ in-out x (gathered writes rest) (in-gathered writes x q (in-head x (identifiers-of (select is-written (l .places))))) o
+        ]
+        | inr p ↦ runs-out r c None (from-start e) before x (out-parts x (gathered writes before) (gathered writes rest) (subst (λ (z : List ℕ). Out x z) (gathered-++ writes before rest) (subst (λ (z : List InstructionV). Out x (gathered writes z)) eq (p .0))) .0) ∙ p .1 e a
+      ]
 
   module _ (gs : List InstructionV) (known : (l : InstructionV) → Lists gs l → Known l)
       (m : InstructionV) (ms : List InstructionV) (sub : Sublist (m ∷ ms) rows) (jsx : (n : InstructionV) → Lists (m ∷ ms) n → is-element n ≡ true)
       (h₀ : Hir) (large : size ≤ length (h₀ .identifiers)) (going : collect-props h₀ (m ∷ ms) .ended ≡ false)
       (loads : List InstructionV) (cs : Copies gs (tag-places (m ∷ ms)) loads) where
-
     ids : List ℕ
     ids = results (m ∷ ms)
 
@@ -128,7 +131,7 @@ module _ {V : Type 0} (r : Reading V) (F : Hir) (f k : ℕ) (own rows : List Ins
           let i = gather-grown (results (m ∷ ms)) (start-gathering h₀) (places-of (m ∷ ms)) .identifiers in
           let j = fresh-length (take-tag h) (promoted (tag-temporary (length (h .identifiers)))) in
           bind-well S given size (record { hir = with-load h; table = [] }) entries (omega arith) (λ e l k. leads .found e l k)
-            (record { fits = λ b l. lists-none l; above = λ b l. lists-none l; below = λ b l. lists-none l; distinct = tt })
+          (record { fits = λ b l. lists-none l; above = λ b l. lists-none l; below = λ b l. lists-none l; distinct = tt })
 
       ordered-here : Ordered (before ++ (last-of m ms ∷ after))
       ordered-here = subst Ordered eq ordered
@@ -143,17 +146,19 @@ module _ {V : Type 0} (r : Reading V) (F : Hir) (f k : ℕ) (own rows : List Ins
       all-before = sub-before before after m ms distinct-here (subst (λ (z : List InstructionV). Sublist (m ∷ ms) z) eq sub)
 
       -- the members are satisfied by the values at the cut before the root
-      solve : (a : (b : Bound) → Lists (prepared .table) b → size ≤ b .fresh) (n : InstructionV) (ns : List InstructionV) → All-before before (n ∷ ns) → ((i : InstructionV) → Lists (n ∷ ns) i → is-element i ≡ true) → Solved r S given (results (m ∷ ms)) (prepared .table) size a (calls r e fs own) (n ∷ ns)
+      solve : (a : (b : Bound) → Lists (prepared .table) b → size ≤ b .fresh) (n : InstructionV) (ns : List InstructionV) → All-before before (n ∷ ns)
+          → ((i : InstructionV) → Lists (n ∷ ns) i → is-element i ≡ true)
+          → Solved r S given (results (m ∷ ms)) (prepared .table) size a (calls r e fs own) (n ∷ ns)
       solve a n [] b j = (tt, tt)
       solve a n (o ∷ ns) b j = (settled-element r (calls r e fs own) (from-start e) (b .0) (j n here) distinct-before (ordered-left before (last-of m ms ∷ after) ordered-here), solve a o ns (b .1) (λ i l. j i (there l)))
 
       -- all that the value of the call rests on
       pub group : Group r e fs own S given size (prepared .table) loads m ms
       group = record {
-          above = well .above;
-          distinct = well .distinct;
-          fits = well .fits;
-          copies = λ l q.
+        above = well .above;
+        distinct = well .distinct;
+        fits = well .fits;
+        copies = λ l q.
             let kn = known l (copies-from cs l q .0) in
             let u = load-member l q in
             let x = l .result .identifier in
@@ -162,12 +167,14 @@ module _ {V : Type 0} (r : Reading V) (F : Hir) (f k : ℕ) (own rows : List Ins
               global = kn .global;
               low = small (u .0) (sub-lists sub (u .1)) x (in-left x (reads (u .0)) (writes (u .0)) (u .2));
               right = load-right e admitted (calls r e fs own) before (last-of m ms ∷ after) eq l kn
-                (elim (before-or-last before m ms (u .0) all-before (u .1)) [
-                    inl b ↦ ordered-split before (last-of m ms ∷ after) ordered-here b phi x (u .2)
-                  | inr b ↦ ordered-right before (last-of m ms ∷ after) ordered-here .0 (subst (λ (z : InstructionV). eqb (z .kind) 0 ≡ false) b phi) x (subst (λ (z : InstructionV). In x (reads z)) b (u .2)) ])
-                (load-read l q) };
-          names = load-names;
-          members = λ n l.
+                  (elim (before-or-last before m ms (u .0) all-before (u .1)) [
+                    | inl b ↦ ordered-split before (last-of m ms ∷ after) ordered-here b phi x (u .2)
+                    | inr b ↦ ordered-right before (last-of m ms ∷ after) ordered-here .0 (subst (λ (z : InstructionV). eqb (z .kind) 0 ≡ false) b phi) x (subst (λ (z : InstructionV). In x (reads z)) b (u .2))
+                  ])
+                  (load-read l q);
+            };
+        names = load-names;
+        members = λ n l.
             let cov : (p : PlaceV) → Lists (n .places) p → Covered (results (m ∷ ms)) entries p = λ p q. gather-covers (results (m ∷ ms)) (start-gathering h₀) (places-of (m ∷ ms)) going p (member-places (m ∷ ms) n p l q) in
             let start : Mapping = record { hir = with-load (collect-props h₀ (m ∷ ms) .hir); table = [] } in
             record {
@@ -176,6 +183,8 @@ module _ {V : Type 0} (r : Reading V) (F : Hir) (f k : ℕ) (own rows : List Ins
               no-spread = λ p q. cov p q .no-spread;
               attr = λ p q a b. let u = cov p q .attr a b in subst (λ x. In x (olds (prepared .table))) (u .3) (bind-covers start entries (u .0) (u .1) (u .2));
               outside = λ p q a b. let u = cov p q .child a b in subst (λ x. In x (olds (prepared .table))) (u .3) (bind-covers start entries (u .0) (u .1) (u .2));
-              tag = λ p q a. copies-all cs p (select-in (role-is 1) (places-of (m ∷ ms)) p (member-places (m ∷ ms) n p l q) a) };
-          ordered = sub-ordered sub ordered;
-          solved = solve (well .above) m ms all-before jsx }
+              tag = λ p q a. copies-all cs p (select-in (role-is 1) (places-of (m ∷ ms)) p (member-places (m ∷ ms) n p l q) a);
+            };
+        ordered = sub-ordered sub ordered;
+        solved = solve (well .above) m ms all-before jsx;
+      }

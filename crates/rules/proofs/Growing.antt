@@ -30,11 +30,12 @@ grown-then p q =
 pub promote-grown : (h : Hir) (x : ℕ) → Grown h (promote h x)
 -- promoting, writing, taking an identifier
 promote-grown h x = elim (getD (h .identifiers) x no-identifier .name) as (λ n. Grown h (elim n [ absent ↦ write (with-identifiers h (changed (λ j. record { declaration = j .declaration; name = promoted (temporary (j .declaration)) }) x (h .identifiers))) (temporary (getD (h .identifiers) x no-identifier .declaration)) | named m ↦ h | promoted m ↦ h ])) [
-    absent ↦
+  | absent ↦
       let l = length-changed (λ j. record { declaration = j .declaration; name = promoted (temporary (j .declaration)) }) x (h .identifiers) in
       record { functions = refl; bears = refl; rows = refl; identifiers = omega arith }
   | named m ↦ grown-refl h
-  | promoted m ↦ grown-refl h ]
+  | promoted m ↦ grown-refl h
+]
 
 pub write-changed-grown : (h : Hir) (old new : Bytes) → Grown h (write-changed h old new)
 write-changed-grown h old new = elim (same-bytes old new) as (λ b. Grown h (elim b [ true ↦ h | false ↦ write h new ])) [ true ↦ grown-refl h | false ↦ record { functions = refl; bears = refl; rows = refl; identifiers = omega arith } ]

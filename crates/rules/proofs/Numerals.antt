@@ -26,13 +26,14 @@ digits-value : (k n : ℕ) → n < k → value 0 (digits-of k n) ≡ n
 unfolding value
 digits-value zero n h = omega arith
 digits-value (suc k) n h = elim (cases-bool (ltb n 10)) [
-    inl e ↦ ap (value 0) (pick-true (ltb n 10) ((48 + n) ∷ []) (digits-of k (n / 10) ++ ((48 + n % 10) ∷ [])) e) ∙ (omega arith)
+  | inl e ↦ ap (value 0) (pick-true (ltb n 10) ((48 + n) ∷ []) (digits-of k (n / 10) ++ ((48 + n % 10) ∷ [])) e) ∙ (omega arith)
   | inr e ↦
       let big = ltb-false n 10 e in
       ap (value 0) (pick-false (ltb n 10) ((48 + n) ∷ []) (digits-of k (n / 10) ++ ((48 + n % 10) ∷ [])) e)
       ∙ value-snoc 0 (digits-of k (n / 10)) (48 + n % 10)
       ∙ ap (λ (m : ℕ). m * 10 + (48 + n % 10 - 48)) (digits-value k (n / 10) (omega arith))
-      ∙ (omega arith) ]
+      ∙ (omega arith)
+]
 
 -- so two numbers with the same numeral are one
 pub numeral-same : (m n : ℕ) → numeral m ≡ numeral n → m ≡ n
@@ -60,13 +61,14 @@ last-after d (x ∷ xs) ys y = last-after x xs ys y
 pub numeral-last : (d : ℕ) (own : Bytes) (n : ℕ) → (48 ≤ last d (own ++ numeral n)) × (last d (own ++ numeral n) < 58)
 unfolding numeral last
 numeral-last d own n = elim (cases-bool (ltb n 10)) [
-    inl e ↦
+  | inl e ↦
       let small = ltb-true n 10 e in
       let q : last d (own ++ numeral n) ≡ 48 + n = ap (λ (ds : Bytes). last d (own ++ ds)) (pick-true (ltb n 10) ((48 + n) ∷ []) (digits-of n (n / 10) ++ ((48 + n % 10) ∷ [])) e) ∙ last-snoc d own (48 + n) in
       (omega arith, omega arith)
   | inr e ↦
       let q : last d (own ++ numeral n) ≡ 48 + n % 10 = ap (λ (ds : Bytes). last d (own ++ ds)) (pick-false (ltb n 10) ((48 + n) ∷ []) (digits-of n (n / 10) ++ ((48 + n % 10) ∷ [])) e) ∙ last-after d own (digits-of n (n / 10)) (48 + n % 10) in
-      (omega arith, omega arith) ]
+      (omega arith, omega arith)
+]
 
 -- digits do not depend on how many are allowed, once they suffice
 abbrev Spelt : ℕ → List ℕ → Type 0

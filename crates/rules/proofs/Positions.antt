@@ -58,8 +58,9 @@ lists-block (b ∷ bs) l = elim (lists-split (b .rows) l) [ inl m ↦ (0, m) | i
 pub map-lists : {A B : Type 0} (fn : A → B) (xs : List A) (y : B) → Lists (map fn xs) y → (x : A) × Lists xs x × (y ≡ fn x)
 map-lists fn [] y l = lists-none l
 map-lists fn (x ∷ xs) y l = elim (lists-head l) [
-    inl e ↦ (x, here, e)
-  | inr m ↦ (let u = map-lists fn xs y m in (u .0, there (u .1), u .2)) ]
+  | inl e ↦ (x, here, e)
+  | inr m ↦ (let u = map-lists fn xs y m in (u .0, there (u .1), u .2))
+]
 
 -- backwards twice
 backwards-++ : {A : Type 0} (xs : List A) (y : A) → backwards (xs ++ (y ∷ [])) ≡ y ∷ backwards xs

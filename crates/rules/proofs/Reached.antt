@@ -21,8 +21,9 @@ gathered-same a b (y ∷ ys) h = ap₂ (λ l n. l ++ n) (h y (in-head y ys)) (ga
 in-gather : (a : ℕ → List ℕ) (x y : ℕ) (ys : List ℕ) → In y ys → In x (a y) → In x (gathered a ys)
 in-gather a x y [] h k = absurd (both-ways false refl h)
 in-gather a x y (z ∷ ys) h k = elim (or-cases (eqb y z) (within y ys) h) [
-    inl e ↦ in-left x (a z) (gathered a ys) (subst (λ n. In x (a n)) (eqb-true y z e) k)
-  | inr e ↦ in-right x (a z) (gathered a ys) (in-gather a x y ys e k) ]
+  | inl e ↦ in-left x (a z) (gathered a ys) (subst (λ n. In x (a n)) (eqb-true y z e) k)
+  | inr e ↦ in-right x (a z) (gathered a ys) (in-gather a x y ys e k)
+]
 
 pub same-walk : (h s : Hir) (d x : ℕ) → ((g : ℕ) → In g (on-walk d h x) → function-at s g ≡ function-at h g) → on-walk d s x ≡ on-walk d h x
 same-walk h s zero x q = refl

@@ -38,6 +38,7 @@ abbrev pub Ordered : List InstructionV → Type 0
 Ordered [] = Unit
 Ordered (i ∷ is) = (eqb (i .kind) phi-kind ≡ false → (x : ℕ) → within x (reads i) ≡ true → within x (gathered writes (i ∷ is)) ≡ false) × Ordered is
 
+-- so in each block
 abbrev pub Ordered-blocks : List BlockV → Type 0
 Ordered-blocks [] = Unit
 Ordered-blocks (b ∷ bs) = Ordered (b .rows) × Ordered-blocks bs
@@ -54,6 +55,7 @@ abbrev pub inner : List InstructionV → List ℕ
 inner [] = []
 inner (i ∷ is) = elim (is-function i) [ true ↦ i .function ∷ inner is | false ↦ inner is ]
 
+-- those of the blocks, each from its last row to its first
 abbrev pub inner-of : List BlockV → List ℕ
 inner-of [] = []
 inner-of (b ∷ bs) = inner (backwards (b .rows)) ++ inner-of bs

@@ -44,10 +44,12 @@ Lawful m = (h : Hir) (f : ℕ) → Thinned-all (still-read (listing (function-at
 
 -- Keep drops nothing.
 
+-- the lists of these blocks
 abbrev pub lists : List BlockV → List (List InstructionV)
 lists [] = []
 lists (b ∷ bs) = b .rows ∷ lists bs
 
+-- the lists as they are
 abbrev pub keep : Meaning
 keep h f = lists (function-at h f .blocks)
 
@@ -57,9 +59,11 @@ keep h f = lists (function-at h f .blocks)
 abbrev pub sweep-keeps : Bool → Bool → Bool
 sweep-keeps acts needed = acts || needed
 
+-- is the row kept, where these identifiers are needed?
 abbrev pub kept : List ℕ → InstructionV → Bool
 kept xs i = sweep-keeps (acting i) (writes-one-of xs i)
 
+-- what the terminals read
 abbrev pub terminal-reads : List BlockV → List ℕ
 terminal-reads [] = []
 terminal-reads (b ∷ bs) = identifiers-of (b .places) ++ terminal-reads bs
@@ -80,5 +84,6 @@ pub data Sublists : List (List InstructionV) → List (List InstructionV) → Ty
   no-list : Sublists [] []
   list : {is js : List InstructionV} {ls ms : List (List InstructionV)} → Sublist is js → Sublists ls ms → Sublists (is ∷ ls) (js ∷ ms)
 
+-- no lawful elimination leaves less
 abbrev pub Least : Meaning → Type 0
 Least s = (m : Meaning) → Lawful m → (h : Hir) (f : ℕ) → Sublists (s h f) (m h f)

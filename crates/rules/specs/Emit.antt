@@ -26,6 +26,7 @@ load-jsx tag load = row load-global-kind (place-of 5 load) (Some tag) 4 []
 abbrev pub jsx-expr : ℕ → List OutlinedJsxAttribute → InstructionV → InstructionV
 jsx-expr load es root = row jsx-kind (root .result) None 0 (place-of 1 load ∷ map as-attribute es)
 
+-- the two rows of the call
 abbrev pub emit-outlined-jsx : Bytes → ℕ → List OutlinedJsxAttribute → InstructionV → List InstructionV
 emit-outlined-jsx tag load es root = load-jsx tag load ∷ jsx-expr load es root ∷ []
 
@@ -35,6 +36,7 @@ emit-outlined-jsx tag load es root = load-jsx tag load ∷ jsx-expr load es root
 abbrev pub bound-place : Bound → PlaceV
 bound-place b = named-place 5 (Some (b .key)) (b .fresh)
 
+-- the Destructure row, with its result
 abbrev pub emit-destructure-props : ℕ → ℕ → List Bound → InstructionV
 emit-destructure-props param result table = row destructure-kind (place-of 5 result) None 9 (place-of 0 param ∷ map bound-place table)
 
@@ -42,6 +44,7 @@ emit-destructure-props param result table = row destructure-kind (place-of 5 res
 abbrev pub tag-places : List InstructionV → List PlaceV
 tag-places ms = select (role-is 1) (gathered (λ (m : InstructionV). m .places) ms)
 
+-- the load among the globals that writes an identifier
 abbrev pub find-global : List InstructionV → ℕ → Option InstructionV
 find-global [] x = None
 find-global (g ∷ gs) x = elim (eqb (g .result .identifier) x) [ true ↦ Some g | false ↦ find-global gs x ]
@@ -50,8 +53,9 @@ find-global (g ∷ gs) x = elim (eqb (g .result .identifier) x) [ true ↦ Some 
 abbrev pub emit-load-globals : List InstructionV → List PlaceV → Option (List InstructionV)
 emit-load-globals globals [] = Some []
 emit-load-globals globals (p ∷ ps) = elim (find-global globals (p .identifier)) [
-    None ↦ None
-  | Some g ↦ elim (emit-load-globals globals ps) [ None ↦ None | Some gs ↦ Some (g ∷ gs) ] ]
+  | None ↦ None
+  | Some g ↦ elim (emit-load-globals globals ps) [ None ↦ None | Some gs ↦ Some (g ∷ gs) ]
+]
 
 -- attributes on the mapped places under their own names, without key; children on the mapped places, those that are members kept
 abbrev pub updated-places : List ℕ → List Bound → List PlaceV → List PlaceV
@@ -59,13 +63,15 @@ updated-places members table [] = []
 updated-places members table (p ∷ ps) =
     let rest : List PlaceV = updated-places members table ps in
     elim (role-is 2 p) [
-      true ↦ elim (is-key (p .name)) [ true ↦ rest | false ↦ named-place 2 (p .name) (latest table (p .identifier)) ∷ rest ]
-    | false ↦ elim (role-is 4 p && not (within (p .identifier) members)) [ true ↦ place-of 4 (latest table (p .identifier)) ∷ rest | false ↦ p ∷ rest ] ]
+      | true ↦ elim (is-key (p .name)) [ true ↦ rest | false ↦ named-place 2 (p .name) (latest table (p .identifier)) ∷ rest ]
+      | false ↦ elim (role-is 4 p && not (within (p .identifier) members)) [ true ↦ place-of 4 (latest table (p .identifier)) ∷ rest | false ↦ p ∷ rest ]
+    ]
 
 -- a member rebuilt; its other fields are kept
 abbrev pub updated : List ℕ → List Bound → InstructionV → InstructionV
 updated members table m = record { order = m .order; kind = m .kind; result = m .result; name = m .name; detail = m .detail; function = m .function; places = updated-places members table (m .places); span = m .span; opening = m .opening; closing = m .closing; effects = m .effects }
 
+-- all members rebuilt
 abbrev pub emit-updated-jsx : List Bound → List InstructionV → List InstructionV
 emit-updated-jsx table ms = map (updated (results ms) table) ms
 
@@ -90,17 +96,21 @@ pub record Prepared : Type 0 where
 -- one block, which lists the Destructure, the tag loads and the members, and returns the root (terminal 3 Return, detail 2 Explicit)
 abbrev pub emit-outlined-fn : Prepared → InstructionV → List InstructionV → List InstructionV → FunctionV
 emit-outlined-fn t m ms loads = record {
-    type = 2;
-    blocks = record {
-        kind = 0; terminal = 3; detail = 2;
-        places = returning (last-of m ms .result) ∷ [];
-        rows = emit-destructure-props (t .param) (suc (t .param)) (t .table) ∷ (loads ++ emit-updated-jsx (t .table) (m ∷ ms));
-        preds = [] } ∷ [];
-    params = place-of 5 (t .param) ∷ [];
-    context = [];
-    returns = place-of 5 (suc (suc (t .param)));
-    tag = Some (t .tag);
-    appended = true }
+  type = 2;
+  blocks = record {
+    kind = 0;
+    terminal = 3;
+    detail = 2;
+    places = returning (last-of m ms .result) ∷ [];
+    rows = emit-destructure-props (t .param) (suc (t .param)) (t .table) ∷ (loads ++ emit-updated-jsx (t .table) (m ∷ ms));
+    preds = [];
+  } ∷ [];
+  params = place-of 5 (t .param) ∷ [];
+  context = [];
+  returns = place-of 5 (suc (suc (t .param)));
+  tag = Some (t .tag);
+  appended = true;
+}
 
 -- What becomes of a group: the Rust's `process_jsx_group`.
 
@@ -108,6 +118,7 @@ emit-outlined-fn t m ms loads = record {
 abbrev pub take-tag : Hir → Hir
 take-tag h = record { identifiers = h .identifiers; functions = h .functions; bears = h .bears; used-rows = h .used-rows; counter = suc (h .counter); mark = next-tag h; text = h .text ++ tag-name (next-tag h) }
 
+-- the tag, then the fresh identifiers in their order
 abbrev pub prepare : Hir → List OutlinedJsxAttribute → Prepared
 prepare h es =
     let load : ℕ = length (h .identifiers) in
@@ -118,19 +129,21 @@ prepare h es =
       tag = tag-name (next-tag h);
       load = load;
       table = bound .table;
-      param = param }
+      param = param;
+    }
 
 -- The function is appended; its rows and the two of its call are taken, and with the call's load a row bears the tag. The copied
 -- loads bear names that were borne already.
 abbrev pub outline-function : Hir → FunctionV → Bytes → Hir
 outline-function h f tag = record {
-    identifiers = h .identifiers;
-    functions = h .functions ++ (f ∷ []);
-    bears = λ n. h .bears n || same-bytes n tag;
-    used-rows = h .used-rows + (2 + length (function-rows f));
-    counter = h .counter;
-    mark = h .mark;
-    text = h .text }
+  identifiers = h .identifiers;
+  functions = h .functions ++ (f ∷ []);
+  bears = λ n. h .bears n || same-bytes n tag;
+  used-rows = h .used-rows + (2 + length (function-rows f));
+  counter = h .counter;
+  mark = h .mark;
+  text = h .text;
+}
 
 -- functions appended, tags abandoned, properties bound
 pub record Report : Type 0 where
@@ -138,9 +151,11 @@ pub record Report : Type 0 where
   pub abandoned : ℕ
   pub properties : ℕ
 
+-- nothing to report
 abbrev pub nothing : Report
 nothing = record { functions = 0; abandoned = 0; properties = 0 }
 
+-- two reports as one
 abbrev pub add : Report → Report → Report
 add a b = record { functions = a .functions + b .functions; abandoned = a .abandoned + b .abandoned; properties = a .properties + b .properties }
 
@@ -149,6 +164,7 @@ pub record Rewrite : Type 0 where
   pub root : ℕ
   pub rows : List InstructionV
 
+-- the store, what roots are to become, and what is to be reported
 pub record Outcome : Type 0 where
   pub hir : Hir
   pub rewrites : List Rewrite
@@ -159,10 +175,12 @@ pub record Outcome : Type 0 where
 abbrev pub outcome : Prepared → List OutlinedJsxAttribute → InstructionV → List InstructionV → Option (List InstructionV) → Outcome
 outcome t es m ms None = record { hir = t .hir; rewrites = []; report = record { functions = 0; abandoned = 1; properties = 0 } }
 outcome t es m ms (Some loads) = record {
-    hir = outline-function (fresh (t .hir) absent) (emit-outlined-fn t m ms loads) (t .tag);
-    rewrites = record { root = last-of m ms .result .identifier; rows = emit-outlined-jsx (t .tag) (t .load) es (last-of m ms) } ∷ [];
-    report = record { functions = 1; abandoned = 0; properties = length (t .table) } }
+  hir = outline-function (fresh (t .hir) absent) (emit-outlined-fn t m ms loads) (t .tag);
+  rewrites = record { root = last-of m ms .result .identifier; rows = emit-outlined-jsx (t .tag) (t .load) es (last-of m ms) } ∷ [];
+  report = record { functions = 1; abandoned = 0; properties = length (t .table) };
+}
 
+-- the tag is taken before the loads are looked for
 abbrev pub emit : List InstructionV → InstructionV → List InstructionV → Hir → List OutlinedJsxAttribute → Outcome
 emit globals m ms h es = outcome (prepare h es) es m ms (emit-load-globals globals (tag-places (m ∷ ms)))
 
@@ -176,7 +194,8 @@ process-jsx-group type globals [] h = done h
 process-jsx-group type globals (m ∷ []) h = done h
 process-jsx-group type globals (m ∷ n ∷ ms) h =
     elim (eqb type 0) [
-      true ↦ done h
-    | false ↦
-        let g : Gathering = collect-props h (m ∷ n ∷ ms) in
-        elim (g .ended) [ true ↦ done (g .hir) | false ↦ emit globals m (n ∷ ms) (g .hir) (g .entries) ] ]
+      | true ↦ done h
+      | false ↦
+          let g : Gathering = collect-props h (m ∷ n ∷ ms) in
+          elim (g .ended) [ true ↦ done (g .hir) | false ↦ emit globals m (n ∷ ms) (g .hir) (g .entries) ]
+    ]

@@ -4,27 +4,35 @@ use mathlib.Core.Bool.{Bool, true, false, cond}
 use mathlib.Core.List.{List, [], _∷_}
 use lib.Dec.{leb}
 
+-- a phi
 abbrev pub phi-kind : ℕ
 phi-kind = 0
 
+-- Destructure
 abbrev pub destructure-kind : ℕ
 destructure-kind = 7
 
+-- CallExpression
 abbrev pub call-expression-kind : ℕ
 call-expression-kind = 12
 
+-- JsxExpression
 abbrev pub jsx-kind : ℕ
 jsx-kind = 16
 
+-- ObjectMethod, which has an inner function but is not walked
 abbrev pub object-method-kind : ℕ
 object-method-kind = 18
 
+-- LoadGlobal
 abbrev pub load-global-kind : ℕ
 load-global-kind = 29
 
+-- StoreGlobal
 abbrev pub store-global-kind : ℕ
 store-global-kind = 30
 
+-- FunctionExpression, whose inner function is walked
 abbrev pub function-expression-kind : ℕ
 function-expression-kind = 31
 

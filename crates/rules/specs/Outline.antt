@@ -18,6 +18,7 @@ pub record Walk : Type 0 where
   pub rewrites : List Rewrite
   pub report : Report
 
+-- the children of these rows
 abbrev pub children : List InstructionV → List ℕ
 children ms = identifiers-of (select (role-is 4) (gathered (λ (m : InstructionV). m .places) ms))
 
@@ -27,6 +28,7 @@ process-and-outline-jsx type w =
     let o : Outcome = process-jsx-group type (w .globals) (w .members) (w .hir) in
     record { hir = o .hir; globals = w .globals; members = []; rewrites = o .rewrites ++ w .rewrites; report = add (w .report) (o .report) }
 
+-- a row joins the open group, before its other members
 abbrev pub joined : Walk → InstructionV → Walk
 joined w i = record { hir = w .hir; globals = w .globals; members = i ∷ w .members; rewrites = w .rewrites; report = w .report }
 
@@ -35,14 +37,17 @@ joined w i = record { hir = w .hir; globals = w .globals; members = i ∷ w .mem
 abbrev pub passed : (Hir → ℕ → Outcome) → ℕ → Walk → InstructionV → Walk
 passed inner type w i =
     elim (is-global i) [
-      true ↦ record { hir = w .hir; globals = i ∷ w .globals; members = w .members; rewrites = w .rewrites; report = w .report }
-    | false ↦ elim (is-function i) [
-        true ↦
-          let o : Outcome = inner (w .hir) (i .function) in
-          record { hir = o .hir; globals = w .globals; members = w .members; rewrites = w .rewrites; report = add (w .report) (o .report) }
-      | false ↦ elim (is-element i) [
-          true ↦ elim (within (i .result .identifier) (children (w .members))) [ true ↦ joined w i | false ↦ joined (process-and-outline-jsx type w) i ]
-        | false ↦ w ] ] ]
+      | true ↦ record { hir = w .hir; globals = i ∷ w .globals; members = w .members; rewrites = w .rewrites; report = w .report }
+      | false ↦ elim (is-function i) [
+        | true ↦
+            let o : Outcome = inner (w .hir) (i .function) in
+            record { hir = o .hir; globals = w .globals; members = w .members; rewrites = w .rewrites; report = add (w .report) (o .report) }
+        | false ↦ elim (is-element i) [
+          | true ↦ elim (within (i .result .identifier) (children (w .members))) [ true ↦ joined w i | false ↦ joined (process-and-outline-jsx type w) i ]
+          | false ↦ w
+        ]
+      ]
+    ]
 
 -- the rows from the last to the first; at the block's start the open group closes too
 abbrev pub walk-back : (Hir → ℕ → Outcome) → ℕ → Walk → List InstructionV → Walk
@@ -54,6 +59,7 @@ abbrev pub rewritten-row : List Rewrite → InstructionV → List InstructionV
 rewritten-row [] i = i ∷ []
 rewritten-row (r ∷ rs) i = elim (is-element i && eqb (r .root) (i .result .identifier)) [ true ↦ r .rows | false ↦ rewritten-row rs i ]
 
+-- for all rows of the block
 abbrev pub rewritten : List Rewrite → List InstructionV → List InstructionV
 rewritten rs is = gathered (rewritten-row rs) is
 

@@ -30,11 +30,12 @@ pub record Gathering : Type 0 where
 -- one more prop, under the name made for it
 abbrev pub enter : Gathering → Hir → Bool → PlaceV → Option Bytes → Made → Gathering
 enter g h child p original made = record {
-    hir = h;
-    seen = made .name ∷ g .seen;
-    counter = made .counter;
-    entries = g .entries ++ (record { child = child; original-name = original; new-name = made .name; place = p } ∷ []);
-    ended = false }
+  hir = h;
+  seen = made .name ∷ g .seen;
+  counter = made .counter;
+  entries = g .entries ++ (record { child = child; original-name = original; new-name = made .name; place = p } ∷ []);
+  ended = false;
+}
 
 -- a name that is kept unchanged is not written anew
 abbrev pub write-changed : Hir → Bytes → Bytes → Hir
@@ -46,6 +47,7 @@ enter-attribute g p =
     let made : Made = generate-name (g .seen) (spell (p .name)) (g .counter) in
     enter g (write-changed (g .hir) (spell (p .name)) (made .name)) false p (p .name) made
 
+-- what stands where there is no identifier
 abbrev pub no-identifier : IdentifierV
 no-identifier = record { declaration = 0; name = absent }
 
@@ -54,9 +56,10 @@ abbrev pub promote : Hir → ℕ → Hir
 promote h x =
     let i : IdentifierV = getD (h .identifiers) x no-identifier in
     elim (i .name) [
-      absent ↦ write (with-identifiers h (changed (λ j. record { declaration = j .declaration; name = promoted (temporary (j .declaration)) }) x (h .identifiers))) (temporary (i .declaration))
-    | named n ↦ h
-    | promoted n ↦ h ]
+      | absent ↦ write (with-identifiers h (changed (λ j. record { declaration = j .declaration; name = promoted (temporary (j .declaration)) }) x (h .identifiers))) (temporary (i .declaration))
+      | named n ↦ h
+      | promoted n ↦ h
+    ]
 
 -- a child is promoted, and goes by a name made from t
 abbrev pub enter-child : Gathering → PlaceV → Gathering
@@ -72,13 +75,17 @@ end g = record { hir = g .hir; seen = g .seen; counter = g .counter; entries = g
 abbrev pub gather-place : List ℕ → Gathering → PlaceV → Gathering
 gather-place members g p =
     elim (g .ended) [
-      true ↦ g
-    | false ↦ elim (role-is 2 p) [
-        true ↦ enter-attribute g p
-      | false ↦ elim (role-is 3 p) [
-          true ↦ end g
-        | false ↦ elim (role-is 4 p && not (within (p .identifier) members)) [ true ↦ enter-child g p | false ↦ g ] ] ] ]
+      | true ↦ g
+      | false ↦ elim (role-is 2 p) [
+        | true ↦ enter-attribute g p
+        | false ↦ elim (role-is 3 p) [
+          | true ↦ end g
+          | false ↦ elim (role-is 4 p && not (within (p .identifier) members)) [ true ↦ enter-child g p | false ↦ g ]
+        ]
+      ]
+    ]
 
+-- one place after the other
 abbrev pub gather : List ℕ → Gathering → List PlaceV → Gathering
 gather members g [] = g
 gather members g (p ∷ ps) = gather members (gather-place members g p) ps
@@ -117,6 +124,7 @@ abbrev pub latest : List Bound → ℕ → ℕ
 latest [] x = x
 latest (b ∷ bs) x = elim (eqb (b .old) x) [ true ↦ b .fresh | false ↦ latest bs x ]
 
+-- the store, and the ordered table
 pub record Mapping : Type 0 where
   pub hir : Hir
   pub table : List Bound
@@ -125,10 +133,13 @@ pub record Mapping : Type 0 where
 abbrev pub bind-entries : Mapping → List OutlinedJsxAttribute → Mapping
 bind-entries m [] = m
 bind-entries m (e ∷ es) = elim (is-key-entry e) [
-    true ↦ bind-entries m es
+  | true ↦ bind-entries m es
   | false ↦ bind-entries (record {
-        hir = fresh (m .hir) (named (e .new-name));
-        table = put (record { old = e .place .identifier; key = e .new-name; fresh = length (m .hir .identifiers) }) (m .table) }) es ]
+    hir = fresh (m .hir) (named (e .new-name));
+    table = put (record { old = e .place .identifier; key = e .new-name; fresh = length (m .hir .identifiers) }) (m .table);
+  }) es
+]
 
+-- all of them, from an empty table
 abbrev pub create-old-to-new-props-mapping : Hir → List OutlinedJsxAttribute → Mapping
 create-old-to-new-props-mapping h es = bind-entries (record { hir = h; table = [] }) es

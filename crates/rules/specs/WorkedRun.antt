@@ -16,38 +16,45 @@ use Rattle.rules.specs.Cases.{at, call-with, attr, child, load, single, tile, 
 abbrev pub passed-on : Hir
 passed-on = filled (unnamed 6 0) (screen 2 5 (
     at 1 0 (load Tile)
-  ∷ at 2 1 (single dd (attr v 3 ∷ []))
-  ∷ at 3 2 (tile 0 (attr v 4 ∷ child 1 ∷ []))
-  ∷ at 4 5 (call-with 2) ∷ []) ∷ [])
+    ∷ at 2 1 (single dd (attr v 3 ∷ []))
+    ∷ at 3 2 (tile 0 (attr v 4 ∷ child 1 ∷ []))
+    ∷ at 4 5 (call-with 2) ∷ []) ∷ [])
 
 -- A reading in numbers, which tells elements apart by their tag, by the names and values of their attributes, and by their children.
 
+-- a name by its length
 abbrev pub of-name : Option Bytes → ℕ
 of-name None = 3
 of-name (Some n) = length n
 
+-- a tag
 abbrev pub of-tag : Tag ℕ → ℕ
 of-tag (builtin n) = of-name n
 of-tag (component v) = v
 
+-- attributes in order
 abbrev pub of-attributes : List (Attribute ℕ) → ℕ
 of-attributes [] = 1
 of-attributes (attribute n v ∷ ps) = of-name n + v + 7 * of-attributes ps
 of-attributes (spread v ∷ ps) = v + 11 * of-attributes ps
 
+-- values in order
 abbrev pub of-list : List ℕ → ℕ
 of-list [] = 2
 of-list (v ∷ vs) = v + 3 * of-list vs
 
+-- children, or none
 abbrev pub of-children : Option (List ℕ) → ℕ
 of-children None = 5
 of-children (Some vs) = of-list vs
 
+-- the reading
 abbrev pub numbers : Reading ℕ
 numbers = record {
-    global = λ n d. 11 + d;
-    element = λ t ps c. of-tag t + 100 * of-attributes ps + 10000 * of-children c;
-    other = λ f vs done k. of-list vs + length done + k }
+  global = λ n d. 11 + d;
+  element = λ t ps c. of-tag t + 100 * of-attributes ps + 10000 * of-children c;
+  other = λ f vs done k. of-list vs + length done + k;
+}
 
 -- identifier x starts at 20 + x
 abbrev pub start : ℕ → ℕ
@@ -57,13 +64,15 @@ start x = 20 + x
 abbrev pub ended : Hir → State ℕ
 ended h = run numbers h 0 0 start
 
--- the values of the tile and of the call that it is passed to, and the one action: the call with the tile's value
+-- the value of the tile
 abbrev pub tile-value : ℕ
 tile-value = 531083215
 
+-- the value of the call
 abbrev pub call-value : ℕ
 call-value = 531083222
 
+-- the one action: the call with the tile's value
 abbrev pub call-action : Action ℕ
 call-action = record { fields = record { kind = 12; name = None; detail = 0; function = 0; names = None ∷ [] }; values = tile-value ∷ [] }
 
