@@ -19,7 +19,8 @@ use Rattle.rules.specs.Drawn.{on-walk}
 use Rattle.rules.proofs.Membership.{In}
 use Rattle.rules.proofs.Steps.{pick-false}
 use Rattle.laws.specs.Staying.{Onward}
-use Rattle.laws.specs.Allowances.{Counts, no-counts, rows-counts, blocks-counts, function-counts, tally, walk-counts, text-allowed, Of-every-walk}
+use Rattle.laws.specs.Allowances.{Counts, no-counts, rows-counts, blocks-counts, function-counts, tally, walk-counts, text-allowed}
+use Rattle.laws.specs.Sufficing.{Of-every-walk}
 use Rattle.laws.specs.Ceilings.{Text-suffices, Counter-below, Mark-below, Mark-rises}
 use Rattle.laws.proofs.Ways.{close-ways, emit-ways}
 use Rattle.laws.proofs.Onward.{same-changed, same-listing}

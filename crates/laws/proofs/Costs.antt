@@ -17,7 +17,9 @@ use Rattle.rules.specs.Props.{OutlinedJsxAttribute, Gathering, gather-place, ga
 use Rattle.rules.specs.Emit.{as-attribute, bound-place, tag-places, updated-places, updated, Prepared, prepare, take-tag, emit-outlined-fn, outcome, Report, nothing, Outcome, process-jsx-group}
 use Rattle.rules.proofs.Positions.{length-changed}
 use Rattle.rules.proofs.Steps.{pick-true, pick-false}
-use Rattle.laws.specs.Allowances.{Counts, rows-counts, places-of, terminal-places, appended-by, group-numbers, group-places, Formed, blocks-in}
+use Rattle.laws.specs.Allowances.{Counts, rows-counts}
+use Rattle.laws.specs.Taking.{places-of, terminal-places, appended-by, group-numbers, group-places}
+use Rattle.laws.specs.Sufficing.{Formed, blocks-in}
 use Rattle.laws.proofs.Ways.{outer-child, gather-ways, bind-ways, bound-next, promote-ways, promoting, close-ways, emit-ways}
 use Rattle.laws.proofs.Groups.{collect-on}
 use Rattle.laws.proofs.Reports.{Quiet, quiet-refl, collect-quiet, prepare-quiet}

@@ -7,10 +7,10 @@ use mathlib.Core.Bool.{Bool}
 use mathlib.Core.List.{List, [], _∷_, _++_, append-assoc}
 use lib.ListN.{length, getD, length-append}
 use Rattle.std.proofs.shelf.Lists.{getD-append-left, getD-push, append-nil}
-use Rattle.std.proofs.shelf.Tests.{cases-bool, cases-eq, cases-lt}
+use Rattle.std.proofs.shelf.Tests.{cases-bool, cases-eq, cases-lt, or-left}
 use Rattle.rules.specs.Lists.{changed}
 use Rattle.rules.specs.Views.{Bytes, InstructionV, FunctionV, NameV, promoted, IdentifierV, Hir, with-identifiers, with-functions, write, no-function, function-at}
-use Rattle.rules.specs.Names.{temporary, tag-name, known, next-tag, free-tag}
+use Rattle.rules.specs.Names.{same-bytes, temporary, tag-name, known, next-tag, free-tag}
 use Rattle.rules.specs.Props.{no-identifier, promote, fresh}
 use Rattle.rules.specs.Emit.{take-tag, outline-function, Report, process-jsx-group}
 use Rattle.rules.specs.Eliminations.{Meaning}
@@ -40,7 +40,7 @@ pub onward-refl : (h : Hir) → Onward h h
 onward-refl h = record {
     identifiers = omega arith; identifier = λ x l. identifier-refl (identifier-at h x); fresh = λ x a b. absurd (omega arith);
     functions = omega arith; function = λ f l. function-refl (function-at h f);
-    text = ([], sym (append-nil (h .text))); used-rows = omega arith; counter = omega arith; mark = omega arith }
+    text = ([], sym (append-nil (h .text))); used-rows = omega arith; bears = λ n q. q; counter = omega arith; mark = omega arith }
 
 pub onward-then : (a b c : Hir) → Onward a b → Onward b c → Onward a c
 onward-then a b c p q =
@@ -59,6 +59,7 @@ onward-then a b c p q =
       function = λ x s. function-then (function-at a x) (function-at b x) (function-at c x) (p .function x s) (q .function x (omega arith));
       text = (p .text .0 ++ q .text .0, q .text .1 ∙ ap (λ (z : Bytes). z ++ q .text .0) (p .text .1) ∙ append-assoc (a .text) (p .text .0) (q .text .0));
       used-rows = omega arith;
+      bears = λ n b. q .bears n (p .bears n b);
       counter = omega arith;
       mark = omega arith }
 
@@ -70,13 +71,13 @@ with-onward : (h : Hir) (is : List IdentifierV)
   → Onward h (with-identifiers h is)
 with-onward h is l s n = record {
     identifiers = l; identifier = s; fresh = n; functions = omega arith; function = λ f _. function-refl (function-at h f);
-    text = ([], sym (append-nil (h .text))); used-rows = omega arith; counter = omega arith; mark = omega arith }
+    text = ([], sym (append-nil (h .text))); used-rows = omega arith; bears = λ n q. q; counter = omega arith; mark = omega arith }
 
 writes-onward : (h : Hir) (made : Bytes) → Onward h (write h made)
 writes-onward h made = record {
     identifiers = omega arith; identifier = λ x l. identifier-refl (identifier-at h x); fresh = λ x a b. absurd (omega arith);
     functions = omega arith; function = λ f l. function-refl (function-at h f);
-    text = (made, refl); used-rows = omega arith; counter = omega arith; mark = omega arith }
+    text = (made, refl); used-rows = omega arith; bears = λ n q. q; counter = omega arith; mark = omega arith }
 
 promotes-onward : (h : Hir) (x : ℕ) → Onward h (promote h x)
 promotes-onward h x =
@@ -116,7 +117,7 @@ tags-onward h =
     record {
       identifiers = omega arith; identifier = λ x l. identifier-refl (identifier-at h x); fresh = λ x a b. absurd (omega arith);
       functions = omega arith; function = λ f l. function-refl (function-at h f);
-      text = (tag-name (next-tag h), refl); used-rows = omega arith; counter = omega arith; mark = omega arith }
+      text = (tag-name (next-tag h), refl); used-rows = omega arith; bears = λ n q. q; counter = omega arith; mark = omega arith }
 
 appends-onward : (h : Hir) (f : FunctionV) (tag : Bytes) → Onward h (outline-function h f tag)
 appends-onward h f tag =
@@ -125,7 +126,7 @@ appends-onward h f tag =
       identifiers = omega arith; identifier = λ x _. identifier-refl (identifier-at h x); fresh = λ x a b. absurd (omega arith);
       functions = omega arith;
       function = λ g s. subst (λ (z : FunctionV). Same-function (function-at h g) z) (sym (getD-append-left (h .functions) (f ∷ []) no-function g s)) (function-refl (function-at h g));
-      text = ([], sym (append-nil (h .text))); used-rows = omega arith; counter = omega arith; mark = omega arith }
+      text = ([], sym (append-nil (h .text))); used-rows = omega arith; bears = λ n q. or-left (h .bears n) (same-bytes n tag) q; counter = omega arith; mark = omega arith }
 
 pub relists-onward : (h : Hir) (f : ℕ) (Fn : FunctionV → FunctionV) → ((g : FunctionV) → Same-function g (Fn g)) → Onward h (with-functions h (changed Fn f (h .functions)))
 relists-onward h f Fn q =
@@ -137,7 +138,7 @@ relists-onward h f Fn q =
           inl e ↦ subst (λ z. Same-function (function-at h z) (getD (changed Fn f (h .functions)) z no-function)) (sym e)
             (subst (λ (z : FunctionV). Same-function (function-at h f) z) (sym (at-changed Fn f (h .functions) no-function (omega arith))) (q (function-at h f)))
         | inr e ↦ subst (λ (z : FunctionV). Same-function (function-at h g) z) (sym (at-other Fn f g (h .functions) no-function e)) (function-refl (function-at h g)) ];
-      text = ([], sym (append-nil (h .text))); used-rows = omega arith; counter = omega arith; mark = omega arith }
+      text = ([], sym (append-nil (h .text))); used-rows = omega arith; bears = λ n q. q; counter = omega arith; mark = omega arith }
 
 pub close-onward : (type : ℕ) (gs ms : List InstructionV) (h : Hir) → Onward h (process-jsx-group type gs ms h .hir)
 close-onward = close-on Onward onward-refl onward-then writes-onward promotes-onward tags-onward freshens-onward appends-onward

@@ -19,7 +19,9 @@ use Rattle.rules.proofs.Membership.{In, Out, in-out, in-head, out-parts, distin
 use Rattle.rules.proofs.Positions.{length-changed, block-lists}
 use Rattle.rules.proofs.Steps.{pick-true, pick-false}
 use Rattle.rules.proofs.Sublists.{sub-lists, sub-distinct, sub-gathered}
-use Rattle.laws.specs.Allowances.{Counts, walk-counts, identifiers-allowed, instructions-allowed, numbers-allowed, places-allowed, blocks-allowed, functions-allowed, numbers, places, Walk-formed, blocks-in, Of-every-walk, Identifiers-suffice, Instructions-suffice, Blocks-suffice, Functions-suffice, Numbers-suffice, Places-suffice}
+use Rattle.laws.specs.Allowances.{Counts, walk-counts, identifiers-allowed, instructions-allowed, numbers-allowed, places-allowed, blocks-allowed, functions-allowed}
+use Rattle.laws.specs.Taking.{numbers, places}
+use Rattle.laws.specs.Sufficing.{Walk-formed, blocks-in, Of-every-walk, Identifiers-suffice, Instructions-suffice, Blocks-suffice, Functions-suffice, Numbers-suffice, Places-suffice}
 use Rattle.laws.proofs.Walks.{free, Kept, walk-kept}
 use Rattle.laws.proofs.Costs.{All-formed, group-cost}
 

@@ -24,7 +24,8 @@ use Rattle.rules.proofs.Positions.{backwards-twice, length-changed, at-changed,
 use Rattle.rules.proofs.Steps.{pick-true, pick-false}
 use Rattle.rules.proofs.Sublists.{sub-refl, sub-empty, sub-front, sub-in, sub-out, sub-distinct, sub-gathered, append-none, thinned-sub, sub-trans}
 use Rattle.rules.proofs.Thinning.{thinned-block}
-use Rattle.laws.specs.Allowances.{Counts, no-counts, plus, row-counts, rows-counts, block-counts, blocks-counts, outside-components, function-counts, tally, walk-counts, Price, passing, going-back, relisting, block-takes, blocks-take, takes}
+use Rattle.laws.specs.Allowances.{Counts, no-counts, plus, row-counts, rows-counts, block-counts, blocks-counts, outside-components, function-counts, tally, walk-counts}
+use Rattle.laws.specs.Taking.{Price, passing, going-back, relisting, block-takes, blocks-take, takes}
 use Rattle.laws.proofs.Onward.{add-none}
 use Rattle.laws.proofs.Staying.{close-onward, close-keeps}
 use Rattle.laws.proofs.Ways.{close-ways, with-load, with-outcome, passed-ways, passing-ways}

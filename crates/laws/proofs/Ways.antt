@@ -17,7 +17,7 @@ use Rattle.rules.specs.Names.{temporary}
 use Rattle.rules.specs.Props.{OutlinedJsxAttribute, Gathering, no-identifier, promote, enter-attribute, enter-child, end, gather-place, collect-props, fresh, is-key-entry, put, Mapping, bind-entries}
 use Rattle.rules.specs.Emit.{find-global, emit-load-globals, tag-places, prepare, outcome, Outcome, done, emit, process-jsx-group, add}
 use Rattle.rules.specs.Outline.{Walk, children, process-and-outline-jsx, joined, passed}
-use Rattle.laws.specs.Allowances.{Price, closing, passing}
+use Rattle.laws.specs.Taking.{Price, closing, passing}
 
 abbrev pub outer-child : List ℕ → PlaceV → Bool
 outer-child members p = role-is 4 p && not (within (p .identifier) members)

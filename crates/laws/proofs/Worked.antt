@@ -16,7 +16,7 @@ use Rattle.rules.specs.Cases.{Tile}
 use Rattle.rules.specs.WorkedRun.{passed-on}
 use Rattle.rules.proofs.Membership.{lists-none, lists-head}
 use Rattle.laws.specs.Staying.{identifier-at}
-use Rattle.laws.specs.Allowances.{Formed, Walk-formed}
+use Rattle.laws.specs.Sufficing.{Formed, Walk-formed}
 use Rattle.laws.specs.Worked.{Worked-allowances}
 
 each-row : (i : InstructionV) (is : List InstructionV) → Formed i → ((j : InstructionV) → Lists is j → Formed j) → (j : InstructionV) → Lists (i ∷ is) j → Formed j

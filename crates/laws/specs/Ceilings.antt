@@ -6,7 +6,8 @@ use Rattle.rules.specs.Eliminations.{Meaning}
 use Rattle.rules.specs.Outline.{outline-jsx, depth}
 use Rattle.rules.specs.Drawn.{Few-borne}
 use Rattle.laws.specs.Staying.{identifier-at}
-use Rattle.laws.specs.Allowances.{walk-counts, identifiers-allowed, instructions-allowed, functions-allowed, text-allowed, Of-every-walk}
+use Rattle.laws.specs.Allowances.{walk-counts, identifiers-allowed, instructions-allowed, functions-allowed, text-allowed}
+use Rattle.laws.specs.Sufficing.{Of-every-walk}
 
 -- the most that the tag counter and the tag mark can come to
 abbrev pub counter-ceiling : ℕ

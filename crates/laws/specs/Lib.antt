@@ -1,6 +1,8 @@
-pub mod Staying
-pub mod Allowances
-pub mod Reports
-pub mod Ceilings
 pub mod Naming
+pub mod Staying
+pub mod Reports
+pub mod Allowances
+pub mod Taking
+pub mod Sufficing
+pub mod Ceilings
 pub mod Worked

@@ -3,9 +3,9 @@ use Prim.Native.Nat.{ℕ, _+_, _<_, _≤_}
 use mathlib.Core.Path.{_≡_}
 use mathlib.Core.Logic.{_⊎_}
 use mathlib.Core.Bool.{Bool, true, false, not}
-use lib.Dec.{ltb}
 use mathlib.Core.List.{List, [], _∷_, _++_}
 use lib.ListN.{length, getD}
+use lib.Dec.{ltb}
 use Rattle.rules.specs.Lists.{within}
 use Rattle.rules.specs.Views.{Bytes, InstructionV, BlockV, FunctionV, absent, promoted, IdentifierV, Hir, with-rows, with-blocks, function-at}
 use Rattle.rules.specs.Names.{temporary}
@@ -26,6 +26,7 @@ Same-but-lists (b ∷ bs) (c ∷ cs) = (c ≡ with-rows b (c .rows)) × Same-but
 abbrev pub Same-function : FunctionV → FunctionV → Type 0
 Same-function f g = (g ≡ with-blocks f (g .blocks)) × Same-but-lists (f .blocks) (g .blocks)
 
+-- the identifier of a number
 abbrev pub identifier-at : Hir → ℕ → IdentifierV
 identifier-at h x = getD (h .identifiers) x no-identifier
 
@@ -53,11 +54,14 @@ pub record Onward (h h′ : Hir) : Type 0 where
   pub function : (f : ℕ) → f < length (h .functions) → Same-function (function-at h f) (function-at h′ f)
   -- text is only added
   pub text : (made : Bytes) × (h′ .text ≡ h .text ++ made)
-  -- rows are only added, and the tag counter and the tag mark do not fall
+  -- rows are only added, and bear what they bore
   pub used-rows : h .used-rows ≤ h′ .used-rows
+  pub bears : (n : Bytes) → h .bears n ≡ true → h′ .bears n ≡ true
+  -- the tag counter and the tag mark do not fall
   pub counter : h .counter ≤ h′ .counter
   pub mark : h .mark ≤ h′ .mark
 
+-- of every outline, accepted or not
 abbrev pub Every-outline-goes-onward : Type 0
 Every-outline-goes-onward = (m : Meaning) (h : Hir) (f : ℕ) → Onward h (outline-jsx m h f .hir)
 

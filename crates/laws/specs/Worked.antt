@@ -5,7 +5,9 @@ use Rattle.rules.specs.Eliminations.{sweep}
 use Rattle.rules.specs.Outline.{outline-jsx, depth}
 use Rattle.rules.specs.Cases.{nested}
 use Rattle.rules.specs.WorkedRun.{passed-on}
-use Rattle.laws.specs.Allowances.{Counts, walk-counts, identifiers-allowed, instructions-allowed, numbers-allowed, places-allowed, text-allowed, takes, numbers, places, Walk-formed}
+use Rattle.laws.specs.Allowances.{Counts, walk-counts, identifiers-allowed, instructions-allowed, numbers-allowed, places-allowed, text-allowed}
+use Rattle.laws.specs.Taking.{takes, numbers, places}
+use Rattle.laws.specs.Sufficing.{Walk-formed}
 use Rattle.laws.specs.Ceilings.{Within-limits}
 
 -- the counts of the tile: two elements with an attribute each, one of them the other's child

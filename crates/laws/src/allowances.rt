@@ -2,9 +2,8 @@
 // (the elements of each block halved), listed rows and the bytes of attribute names.
 ghost use mathlib.Core.Path.{_≡_};
 ghost use Prim.Native.Nat.{_^_, _<_};
-ghost use Rattle.laws.specs.Allowances.{pairs-of, listed-of, identifiers-allowance, instructions-allowance, numbers-allowance, places-allowance, blocks-allowance, functions-allowance, text-allowance};
-ghost use Rattle.laws.specs.Allowances.{Identifiers-suffice, Instructions-suffice, Numbers-suffice, Places-suffice, Blocks-suffice, Functions-suffice};
-ghost use Rattle.laws.specs.Allowances.{identifiers-allowed};
+ghost use Rattle.laws.specs.Allowances.{pairs-of, listed-of, identifiers-allowance, instructions-allowance, numbers-allowance, places-allowance, blocks-allowance, functions-allowance, text-allowance, identifiers-allowed};
+ghost use Rattle.laws.specs.Sufficing.{Identifiers-suffice, Instructions-suffice, Numbers-suffice, Places-suffice, Blocks-suffice, Functions-suffice};
 ghost use Rattle.laws.specs.Ceilings.{Text-suffices};
 ghost use Rattle.laws.specs.Worked.{tile-counts, Worked-allowances};
 
