@@ -17,6 +17,7 @@ use Rattle.rules.specs.Props.{OutlinedJsxAttribute, Gathering, write-changed, n
 use Rattle.rules.specs.Emit.{take-tag, prepare, Outcome, process-jsx-group}
 use Rattle.rules.proofs.Steps.{pick-true, pick-false}
 use Rattle.laws.specs.Staying.{identifier-at, Onward}
+use Rattle.laws.specs.Ceilings.{name-counter-ceiling, Name-counter-below}
 use Rattle.laws.specs.Allowances.{Counts, letters-of, rows-counts}
 use Rattle.laws.proofs.Ways.{gather-ways, promoting, promote-ways, close-ways, emit-ways}
 use Rattle.laws.proofs.Groups.{bind-on}
@@ -106,21 +107,45 @@ abbrev may-write : List PlaceV → ℕ
 may-write ps = letters ps + 10 * count 2 ps + 23 * count 4 ps
 
 -- the group's counter is below 2 ^ 32, and so no made name is longer than its old name by more than ten digits
-record Named (g : Gathering) : Type 0 where
-  pub counter : g .counter ≤ 1 + 65536 * length (g .seen)
-  pub declared : Declared (g .hir)
+abbrev Low-counter : Gathering → Type 0
+Low-counter g = g .counter ≤ 1 + 65536 * length (g .seen)
 
-record Wrote (g g′ : Gathering) (p : PlaceV) (ps : List PlaceV) : Type 0 where
-  pub named : Named g′
-  pub seen : length (g′ .seen) + count 2 ps + count 4 ps ≤ length (g .seen) + count 2 (p ∷ ps) + count 4 (p ∷ ps)
-  pub text : length (g′ .hir .text) + may-write ps ≤ length (g .hir .text) + may-write (p ∷ ps)
-
-made-bounded : (g : Gathering) (old : Bytes) → Named g → length (g .seen) ≤ 65534 → (generate-name (g .seen) old (g .counter) .counter ≤ 1 + 65536 * suc (length (g .seen))) × (length (generate-name (g .seen) old (g .counter) .name) ≤ length old + 10)
-made-bounded g old n l =
+made-bounded : (g : Gathering) (old : Bytes) → Low-counter g → length (g .seen) ≤ 65534 → (generate-name (g .seen) old (g .counter) .counter ≤ 1 + 65536 * suc (length (g .seen))) × (length (generate-name (g .seen) old (g .counter) .name) ≤ length old + 10)
+made-bounded g old k l =
     let q = renamed-bounded (suc (length (g .seen))) (g .seen) old old (g .counter) in
-    let c = q .counter in let k = n .counter in
+    let c = q .counter in
     let few : generate-name (g .seen) old (g .counter) .counter ≤ 1 + 65536 * suc (length (g .seen)) = omega arith in
     (few, q .length-is 10 (omega arith) (λ x s. numeral-length 9 x (let big : 10 ^ 10 ≡ 10000000000 = refl in omega arith)))
+
+record Counted-up (g g′ : Gathering) (p : PlaceV) (ps : List PlaceV) : Type 0 where
+  pub counter : Low-counter g′
+  pub seen : length (g′ .seen) + count 2 ps + count 4 ps ≤ length (g .seen) + count 2 (p ∷ ps) + count 4 (p ∷ ps)
+
+place-counted : (members : List ℕ) (g : Gathering) (p : PlaceV) (ps : List PlaceV) → Low-counter g → length (g .seen) + count 2 (p ∷ ps) + count 4 (p ∷ ps) ≤ 65535 → Counted-up g (gather-place members g p) p ps
+place-counted members g p ps n room =
+    let m₂ = count-more 2 p ps in
+    let m₄ = count-more 4 p ps in
+    gather-ways (λ g′. Counted-up g g′ p ps) members g p
+      (λ _. record { counter = n; seen = omega arith })
+      (λ _ r. let y = count-yes 2 p ps r in record { counter = made-bounded g (spell (p .name)) n (omega arith) .0; seen = omega arith })
+      (λ _ _ _. record { counter = n; seen = omega arith })
+      (λ _ _ _ c. let y = count-yes 4 p ps (and-parts (role-is 4 p) (not (within (p .identifier) members)) c .0) in record { counter = made-bounded g t-name n (omega arith) .0; seen = omega arith })
+      (λ _ _ _ _. record { counter = n; seen = omega arith })
+
+gather-counted : (members : List ℕ) (g : Gathering) (ps : List PlaceV) → Low-counter g → length (g .seen) + count 2 ps + count 4 ps ≤ 65535 → Low-counter (gather members g ps) × (length (gather members g ps .seen) ≤ length (g .seen) + count 2 ps + count 4 ps)
+gather-counted members g [] n room = (n, omega arith)
+gather-counted members g (p ∷ ps) n room =
+    let w = place-counted members g p ps n room in
+    let s = w .seen in
+    let q = gather-counted members (gather-place members g p) ps (w .counter) (omega arith) in
+    let q₁ = q .1 in
+    (q .0, omega arith)
+
+pub name-counter-below : Name-counter-below
+name-counter-below h members ps room =
+    let q = gather-counted members (start-gathering h) ps (omega arith) (omega arith) in
+    let c = q .0 in let s = q .1 in
+    omega arith
 
 changed-text : (h : Hir) (old new : Bytes) → (Declared h → Declared (write-changed h old new)) × (length (write-changed h old new .text) ≤ length (h .text) + length new)
 changed-text h old new =
@@ -139,40 +164,41 @@ promote-text h x d = promote-ways (λ h′. length (h′ .text) ≤ length (h .t
       omega arith)
     (omega arith)
 
-place-wrote : (members : List ℕ) (g : Gathering) (p : PlaceV) (ps : List PlaceV) → Named g → length (g .seen) + count 2 (p ∷ ps) + count 4 (p ∷ ps) ≤ 65535 → Wrote g (gather-place members g p) p ps
-place-wrote members g p ps n room =
+record Wrote (g g′ : Gathering) (p : PlaceV) (ps : List PlaceV) : Type 0 where
+  pub declared : Declared (g′ .hir)
+  pub text : length (g′ .hir .text) + may-write ps ≤ length (g .hir .text) + may-write (p ∷ ps)
+
+place-wrote : (members : List ℕ) (g : Gathering) (p : PlaceV) (ps : List PlaceV) → Low-counter g → Declared (g .hir) → length (g .seen) + count 2 (p ∷ ps) + count 4 (p ∷ ps) ≤ 65535 → Wrote g (gather-place members g p) p ps
+place-wrote members g p ps n d room =
     let m₂ = count-more 2 p ps in
     let m₄ = count-more 4 p ps in
     let ml = letters-more p ps in
     gather-ways (λ g′. Wrote g g′ p ps) members g p
-      (λ _. record { named = n; seen = omega arith; text = omega arith })
+      (λ _. record { declared = d; text = omega arith })
       (λ _ r.
         let y = count-yes 2 p ps r in
         let z = letters-yes p ps r in
         let old = spell (p .name) in
-        let made = generate-name (g .seen) old (g .counter) in
-        let b = made-bounded g old n (omega arith) in
-        let b₀ = b .0 in let b₁ = b .1 in
-        let c = changed-text (g .hir) old (made .name) in
+        let b = made-bounded g old n (omega arith) .1 in
+        let c = changed-text (g .hir) old (generate-name (g .seen) old (g .counter) .name) in
         let c₁ = c .1 in
-        record { named = record { counter = b₀; declared = c .0 (n .declared) }; seen = omega arith; text = omega arith })
-      (λ _ _ _. record { named = record { counter = n .counter; declared = n .declared }; seen = omega arith; text = omega arith })
+        record { declared = c .0 d; text = omega arith })
+      (λ _ _ _. record { declared = d; text = omega arith })
       (λ _ _ _ c.
         let y = count-yes 4 p ps (and-parts (role-is 4 p) (not (within (p .identifier) members)) c .0) in
-        let made = generate-name (g .seen) t-name (g .counter) in
-        let b = made-bounded g t-name n (omega arith) in
-        let b₀ = b .0 in let b₁ = b .1 in
-        let q = promote-text (g .hir) (p .identifier) (n .declared) in
-        let l = length-append (promote (g .hir) (p .identifier) .text) (made .name) in
-        record { named = record { counter = b₀; declared = promote-declared (g .hir) (p .identifier) (n .declared) }; seen = omega arith; text = omega arith })
-      (λ _ _ _ _. record { named = n; seen = omega arith; text = omega arith })
+        let b = made-bounded g t-name n (omega arith) .1 in
+        let q = promote-text (g .hir) (p .identifier) d in
+        let l = length-append (promote (g .hir) (p .identifier) .text) (generate-name (g .seen) t-name (g .counter) .name) in
+        record { declared = promote-declared (g .hir) (p .identifier) d; text = omega arith })
+      (λ _ _ _ _. record { declared = d; text = omega arith })
 
-gather-wrote : (members : List ℕ) (g : Gathering) (ps : List PlaceV) → Named g → length (g .seen) + count 2 ps + count 4 ps ≤ 65535 → length (gather members g ps .hir .text) ≤ length (g .hir .text) + may-write ps
-gather-wrote members g [] n room = omega arith
-gather-wrote members g (p ∷ ps) n room =
-    let w = place-wrote members g p ps n room in
-    let s = w .seen in let t = w .text in
-    let q = gather-wrote members (gather-place members g p) ps (w .named) (omega arith) in
+gather-wrote : (members : List ℕ) (g : Gathering) (ps : List PlaceV) → Low-counter g → Declared (g .hir) → length (g .seen) + count 2 ps + count 4 ps ≤ 65535 → length (gather members g ps .hir .text) ≤ length (g .hir .text) + may-write ps
+gather-wrote members g [] n d room = omega arith
+gather-wrote members g (p ∷ ps) n d room =
+    let c = place-counted members g p ps n room in
+    let w = place-wrote members g p ps n d room in
+    let s = c .seen in let t = w .text in
+    let q = gather-wrote members (gather-place members g p) ps (c .counter) (w .declared) (omega arith) in
     omega arith
 
 letters-++ : (ps qs : List PlaceV) → letters (ps ++ qs) ≡ letters ps + letters qs
@@ -194,7 +220,7 @@ collect-text h ms j d room =
     let q = members-counted ms j in
     let a = q .attributes in let c = q .children in
     let l = members-letters ms j in
-    let w = gather-wrote (results ms) (start-gathering h) (member-places ms) (record { counter = omega arith; declared = d }) (omega arith) in
+    let w = gather-wrote (results ms) (start-gathering h) (member-places ms) (omega arith) d (omega arith) in
     omega arith
 
 -- Emission.
