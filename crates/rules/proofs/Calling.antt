@@ -37,7 +37,7 @@ abbrev pub run-folded : {V : Type 0} → Reading V → Hir → ℕ → ℕ → (
 run-folded r h f k e = runs r (calls r e (h .functions) (function-rows (function-at h f))) None (from-start e) (rows-at h f k)
 
 -- what a call gives rests on the name that is loaded into its tag
-abbrev pub Respects : {V : Type 0} → Lookup V → Type 0
+abbrev Respects : {V : Type 0} → Lookup V → Type 0
 Respects l = (own own′ : List InstructionV) (x : ℕ) → loaded own x ≡ loaded own′ x → l own x ≡ l own′ x
 
 module _ {V : Type 0} (r : Reading V) (e : ℕ → V) where

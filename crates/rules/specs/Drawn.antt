@@ -17,7 +17,7 @@ use Rattle.rules.specs.Runs.{Reading, State, has-tag, run}
 
 -- As drawn.
 
--- an admitted start: an identifier that a LoadGlobal row of another block of the function writes when filled has that row's value
+-- an admitted start knows what the function's other blocks load: where one of them, as filled, loads a global, its value is there
 abbrev pub Admitted : {V : Type 0} → Reading V → Hir → ℕ → ℕ → (ℕ → V) → Type 0
 Admitted r filled f k e = (j : ℕ) (i : InstructionV) → ¬ (j ≡ k) → Lists (rows-at filled f j) i → is-global i ≡ true → e (i .result .identifier) ≡ r .global (i .name) (i .detail)
 
@@ -26,14 +26,14 @@ pub record Agree {V : Type 0} (size : ℕ) (read : List ℕ) (s t : State V) : T
   pub actions : s .actions ≡ t .actions
   pub value : (x : ℕ) → x < size → within x read ≡ true → s .value x ≡ t .value x
 
--- each block of each filled function, run now, does what it did when filled; still read is what a terminal or a listed row of the
--- function reads now
+-- A screen is a function of the store as filled. Each of its blocks, run now, does what it did then; still read is what the function's
+-- terminals and listed rows read now.
 abbrev pub As-drawn : {V : Type 0} → Reading V → Hir → Hir → Type 0
 As-drawn {V} r filled now = (f k : ℕ) (e : ℕ → V) → f < length (filled .functions) → Admitted r filled f k e → Agree (length (filled .identifiers)) (still-read (function-at now f .blocks)) (run r filled f k e) (run r now f k e)
 
 -- What the promise needs of an accepted call: less than the refusals leave.
 
--- no row other than a phi reads what the rows write from it on
+-- what a row reads is not written by it or by later rows, phis aside
 abbrev pub Ordered : List InstructionV → Type 0
 Ordered [] = Unit
 Ordered (i ∷ is) = (eqb (i .kind) phi-kind ≡ false → (x : ℕ) → within x (reads i) ≡ true → within x (gathered writes (i ∷ is)) ≡ false) × Ordered is
@@ -55,7 +55,7 @@ abbrev pub inner : List InstructionV → List ℕ
 inner [] = []
 inner (i ∷ is) = elim (is-function i) [ true ↦ i .function ∷ inner is | false ↦ inner is ]
 
--- those of the blocks, each from its last row to its first
+-- those of the blocks, each block backwards
 abbrev pub inner-of : List BlockV → List ℕ
 inner-of [] = []
 inner-of (b ∷ bs) = inner (backwards (b .rows)) ++ inner-of bs
@@ -105,6 +105,15 @@ pub record Filled (h : Hir) : Type 0 where
 -- The promise: after any list of calls on a filled store, whatever the reading, every screen behaves as drawn.
 abbrev pub Every-screen-as-drawn : Type 0 → Type 0
 Every-screen-as-drawn V = (filled h : Hir) → Filled filled → After filled h → (r : Reading V) → As-drawn r filled h
+
+-- The same in the form that a call can promise of its entry and its exit: if the entry is what calls on some filled store left, then so is
+-- the exit, and every screen of that store still behaves as drawn.
+abbrev pub Stays-as-drawn : Type 0 → Hir → Hir → Type 0
+Stays-as-drawn V h h′ = (filled : Hir) → Filled filled → After filled h → After filled h′ × ((r : Reading V) → As-drawn r filled h′)
+
+-- which every call does
+abbrev pub Every-call-keeps-it : Type 0 → Type 0
+Every-call-keeps-it V = (h h′ : Hir) → Ends h h′ → Stays-as-drawn V h h′
 
 -- and no two appended functions bear the same tag
 abbrev pub Every-tag-once : Type 0

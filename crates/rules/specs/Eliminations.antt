@@ -17,7 +17,7 @@ listing [] ls = []
 listing (b ∷ bs) [] = b ∷ bs
 listing (b ∷ bs) (l ∷ ls) = with-rows b l ∷ listing bs ls
 
--- the store after it: only the lists of that function's blocks are changed
+-- the store after it: the blocks of the function have these lists, all else is as it was
 abbrev pub eliminated : Meaning → Hir → ℕ → Hir
 eliminated m h f = with-functions h (changed (λ (g : FunctionV). with-blocks g (listing (g .blocks) (m h f))) f (h .functions))
 
@@ -42,18 +42,19 @@ pub data Thinned-all (read : List ℕ) : List BlockV → List (List InstructionV
 abbrev pub Lawful : Meaning → Type 0
 Lawful m = (h : Hir) (f : ℕ) → Thinned-all (still-read (listing (function-at h f .blocks) (m h f))) (function-at h f .blocks) (m h f)
 
--- Keep drops nothing.
+-- Keep leaves every list as it is.
 
 -- the lists of these blocks
 abbrev pub lists : List BlockV → List (List InstructionV)
 lists [] = []
 lists (b ∷ bs) = b .rows ∷ lists bs
 
--- the lists as they are
+-- all of them, for a function
 abbrev pub keep : Meaning
 keep h f = lists (function-at h f .blocks)
 
--- Sweep keeps exactly the acting rows and, repeatedly, the rows that write what a terminal or a kept row reads.
+-- Sweep: starting from nothing needed, rounds of keeping what acts or writes something needed, and of needing what terminals and the kept
+-- rows read, until nothing changes.
 
 -- a row is kept if it acts or writes something needed
 abbrev pub sweep-keeps : Bool → Bool → Bool

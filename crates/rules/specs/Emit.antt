@@ -114,7 +114,7 @@ emit-outlined-fn t m ms loads = record {
 
 -- What becomes of a group: the Rust's `process_jsx_group`.
 
--- taking a tag raises the counter by one and sets the mark to the number taken
+-- the counter counts tags taken, the mark is the number of the latest
 abbrev pub take-tag : Hir → Hir
 take-tag h = record { identifiers = h .identifiers; functions = h .functions; bears = h .bears; used-rows = h .used-rows; counter = suc (h .counter); mark = next-tag h; text = h .text ++ tag-name (next-tag h) }
 
@@ -188,7 +188,7 @@ emit globals m ms h es = outcome (prepare h es) es m ms (emit-load-globals globa
 abbrev pub done : Hir → Outcome
 done h = record { hir = h; rewrites = []; report = nothing }
 
--- with fewer than two members, or in a Component, nothing is done; nor is anything emitted after a spread
+-- a group of one, or in a Component, is left alone, and after a spread nothing is emitted
 abbrev pub process-jsx-group : ℕ → List InstructionV → List InstructionV → Hir → Outcome
 process-jsx-group type globals [] h = done h
 process-jsx-group type globals (m ∷ []) h = done h

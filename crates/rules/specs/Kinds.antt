@@ -1,4 +1,4 @@
--- Kinds of instructions, by number: 0 is a phi, and 1 to 42 follow `InstructionValue`, from LoadLocal to FinishMemoize.
+-- Kinds of instructions, by number: 0 for a phi, else the position of the variant in `InstructionValue`, counted from 1.
 use Prim.Native.Nat.{ℕ}
 use mathlib.Core.Bool.{Bool, true, false, cond}
 use mathlib.Core.List.{List, [], _∷_}

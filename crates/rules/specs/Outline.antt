@@ -32,8 +32,8 @@ process-and-outline-jsx type w =
 abbrev pub joined : Walk → InstructionV → Walk
 joined w i = record { hir = w .hir; globals = w .globals; members = i ∷ w .members; rewrites = w .rewrites; report = w .report }
 
--- A row is passed: a load enters the globals, an inner function is walked, and a JSX row that is no child of the open group closes it
--- and opens the next.
+-- A row is passed: a load is added to the globals, an inner function is walked, and an element joins the group if one of its members has it
+-- as a child, and else begins a new group once the old one is closed.
 abbrev pub passed : (Hir → ℕ → Outcome) → ℕ → Walk → InstructionV → Walk
 passed inner type w i =
     elim (is-global i) [

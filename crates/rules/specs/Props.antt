@@ -51,7 +51,7 @@ enter-attribute g p =
 abbrev pub no-identifier : IdentifierV
 no-identifier = record { declaration = 0; name = absent }
 
--- an unnamed identifier is promoted to #t and its declaration number
+-- an identifier without a name gets a promoted one, made of its declaration number
 abbrev pub promote : Hir → ℕ → Hir
 promote h x =
     let i : IdentifierV = getD (h .identifiers) x no-identifier in
@@ -71,7 +71,7 @@ enter-child g p =
 abbrev pub end : Gathering → Gathering
 end g = record { hir = g .hir; seen = g .seen; counter = g .counter; entries = g .entries; ended = true }
 
--- attributes, then children that are no member
+-- one place of a member: an attribute and a child from outside the group are entered, a spread ends it
 abbrev pub gather-place : List ℕ → Gathering → PlaceV → Gathering
 gather-place members g p =
     elim (g .ended) [

@@ -10,14 +10,14 @@ use Rattle.rules.specs.Lists.{within}
 use Rattle.rules.specs.Views.{Bytes, Hir, still-read, function-at}
 use Rattle.rules.specs.Runs.{Action, Tag, builtin, component, Attribute, attribute, spread, Reading, State, run}
 use Rattle.rules.specs.Drawn.{Admitted, Accepts, After, Filled}
-use Rattle.rules.specs.Cases.{at, call-with, attr, child, load, single, tile, unnamed, screen, filled, dd, Tile, v, report, reported, swept}
+use Rattle.rules.specs.Cases.{at, call-with, attr, child, load, single, component-element, unnamed, one-block, filled, dd, Tile, v, report, reported, swept}
 
--- the tile around an element, passed to a call, which acts, into 5, which is returned
+-- nested elements, passed to a call, which acts, into 5, which is returned
 abbrev pub passed-on : Hir
-passed-on = filled (unnamed 6 0) (screen 2 5 (
+passed-on = filled (unnamed 6 0) (one-block 2 5 (
     at 1 0 (load Tile)
     ∷ at 2 1 (single dd (attr v 3 ∷ []))
-    ∷ at 3 2 (tile 0 (attr v 4 ∷ child 1 ∷ []))
+    ∷ at 3 2 (component-element 0 (attr v 4 ∷ child 1 ∷ []))
     ∷ at 4 5 (call-with 2) ∷ []) ∷ [])
 
 -- A reading in numbers, which tells elements apart by their tag, by the names and values of their attributes, and by their children.
@@ -64,30 +64,30 @@ start x = 20 + x
 abbrev pub ended : Hir → State ℕ
 ended h = run numbers h 0 0 start
 
--- the value of the tile
-abbrev pub tile-value : ℕ
-tile-value = 531083215
+-- the value of the outer element
+abbrev pub element-value : ℕ
+element-value = 531083215
 
 -- the value of the call
 abbrev pub call-value : ℕ
 call-value = 531083222
 
--- the one action: the call with the tile's value
+-- the one action: the call with that value
 abbrev pub call-action : Action ℕ
-call-action = record { fields = record { kind = 12; name = None; detail = 0; function = 0; names = None ∷ [] }; values = tile-value ∷ [] }
+call-action = record { fields = record { kind = 12; name = None; detail = 0; function = 0; names = None ∷ [] }; values = element-value ∷ [] }
 
 -- The store is filled, its function is accepted and outlined, and the start is admitted. Both runs act once, on the same value, and end
--- with the same result; the tile is still read.
+-- with the same result; the element is still read.
 pub record Worked-run : Type 0 where
   pub filled-store : Filled passed-on
   pub accepted : Accepts passed-on 0
   pub after : After passed-on (swept passed-on)
   pub outlined : reported passed-on ≡ report 1 0 2
   pub admitted : Admitted numbers passed-on 0 0 start
-  pub tile-read : within 2 (still-read (function-at (swept passed-on) 0 .blocks)) ≡ true
-  pub drawn-tile : ended passed-on .value 2 ≡ tile-value
+  pub element-read : within 2 (still-read (function-at (swept passed-on) 0 .blocks)) ≡ true
+  pub drawn-element : ended passed-on .value 2 ≡ element-value
   pub drawn-actions : ended passed-on .actions ≡ (call-action ∷ [])
   pub drawn-result : ended passed-on .value 5 ≡ call-value
-  pub outlined-tile : ended (swept passed-on) .value 2 ≡ tile-value
+  pub outlined-element : ended (swept passed-on) .value 2 ≡ element-value
   pub outlined-actions : ended (swept passed-on) .actions ≡ (call-action ∷ [])
   pub outlined-result : ended (swept passed-on) .value 5 ≡ call-value
