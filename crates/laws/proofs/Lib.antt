@@ -13,3 +13,4 @@ pub mod Marks
 pub mod Texts
 pub mod Ceilings
 pub mod Worked
+pub mod Sharing

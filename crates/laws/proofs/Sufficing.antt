@@ -105,10 +105,10 @@ pub record Shown (a b : Hir) (c : Counts) : Type 0 where
   pub blocks : blocks-in (b .functions) ≤ blocks-in (a .functions) + blocks-allowed c
   pub functions : length (b .functions) ≤ length (a .functions) + functions-allowed c
 
-abbrev Ok : ℕ → List InstructionV → Type 0
+abbrev pub Ok : ℕ → List InstructionV → Type 0
 Ok type rows = All-formed rows × Distinct (gathered writes rows)
 
-abbrev Load-ok : ℕ → InstructionV → Type 0
+abbrev pub Load-ok : ℕ → InstructionV → Type 0
 Load-ok type i = i .places ≡ []
 
 ok-part : (type : ℕ) (xs ys : List InstructionV) → Sublist xs ys → Ok type ys → Ok type xs
@@ -120,7 +120,7 @@ blocks-changed Fn e (suc f) [] = refl
 blocks-changed Fn e zero (g ∷ fs) = let q = e g in omega arith
 blocks-changed Fn e (suc f) (g ∷ fs) = let q = blocks-changed Fn e f fs in omega arith
 
-shown-kept : (m : Meaning) (n₀ : ℕ) → Kept m n₀ free Ok Load-ok (λ a b r s c. Shown a b c)
+pub shown-kept : (m : Meaning) (n₀ : ℕ) → Kept m n₀ free Ok Load-ok (λ a b r s c. Shown a b c)
 shown-kept m n₀ = record {
     ok-sub = λ {type} {xs} {ys} s o. ok-part type xs ys s o;
     ok-load = λ type rows i o l g. o .0 i l .load g;
@@ -145,7 +145,7 @@ shown-kept m n₀ = record {
 
 -- List numbers and places.
 
-numbers-kept : (m : Meaning) (n₀ : ℕ) → Kept m n₀ numbers Ok Load-ok (λ a b r s c. s ≤ numbers-allowed c)
+pub numbers-kept : (m : Meaning) (n₀ : ℕ) → Kept m n₀ numbers Ok Load-ok (λ a b r s c. s ≤ numbers-allowed c)
 numbers-kept m n₀ = record {
     ok-sub = λ {type} {xs} {ys} s o. ok-part type xs ys s o;
     ok-load = λ type rows i o l g. o .0 i l .load g;
@@ -156,7 +156,7 @@ numbers-kept m n₀ = record {
     closes = λ type gs a b ms h t l j o. (let q = group-cost type gs a b ms h l j (o .0) .numbers in omega arith);
     relists = λ h f k w ws low big type yes o two many. (let q = rewritten-length (w ∷ ws) (rows-at h f k) two (o .1) in omega arith) }
 
-places-kept : (m : Meaning) (n₀ : ℕ) → Kept m n₀ places Ok Load-ok (λ a b r s c. s ≤ places-allowed c)
+pub places-kept : (m : Meaning) (n₀ : ℕ) → Kept m n₀ places Ok Load-ok (λ a b r s c. s ≤ places-allowed c)
 places-kept m n₀ = record {
     ok-sub = λ {type} {xs} {ys} s o. ok-part type xs ys s o;
     ok-load = λ type rows i o l g. o .0 i l .load g;
@@ -168,7 +168,7 @@ places-kept m n₀ = record {
     relists = λ h f k w ws low big type yes o two many. omega arith }
 
 -- an accepted walk of rows of that form
-ok-walk : (h : Hir) (f : ℕ) → Accepts h f → Walk-formed depth h f → (g : ℕ) → In g (on-walk depth h f) → (j : ℕ) → Ok (function-at h g .type) (block-rows (function-at h g .blocks) j)
+pub ok-walk : (h : Hir) (f : ℕ) → Accepts h f → Walk-formed depth h f → (g : ℕ) → In g (on-walk depth h f) → (j : ℕ) → Ok (function-at h g .type) (block-rows (function-at h g .blocks) j)
 ok-walk h f a w g i j = ((λ x l. w g i x (block-lists (function-at h g .blocks) j l)), block-distinct (function-at h g .blocks) j (a .sound g i .once))
 
 fine-walk : (h : Hir) (f : ℕ) → Accepts h f → Walk-formed depth h f → (g : ℕ) → In g (on-walk depth h f) → (g < length (h .functions)) × ((j : ℕ) → Ok (function-at h g .type) (block-rows (function-at h g .blocks) j))

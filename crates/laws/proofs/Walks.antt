@@ -9,7 +9,7 @@ use lib.ListN.{length, drop, length-append}
 use lib.Dec.{eqb}
 use Rattle.std.specs.declared.option.Option.{Option}
 use Rattle.std.specs.declared.option.Option.the-variants.{Some, None}
-use Rattle.std.proofs.shelf.Tests.{or-right, both-ways, eqb-true, cases-bool}
+use Rattle.std.proofs.shelf.Tests.{or-cases, or-right, both-ways, eqb-true, cases-bool}
 use Rattle.rules.specs.Lists.{Sublist, ends, keeps, skips, within, gathered, changed, backwards, Lists, here, there, Distinct}
 use Rattle.rules.specs.Views.{still-read, InstructionV, BlockV, FunctionV, Hir, is-element, is-global, is-function, function-at, no-function, block-rows, rows-at, with-rows, with-blocks, with-list}
 use Rattle.rules.specs.Props.{OutlinedJsxAttribute, collect-props}
@@ -24,7 +24,7 @@ use Rattle.rules.proofs.Positions.{backwards-twice, length-changed, at-changed,
 use Rattle.rules.proofs.Steps.{pick-true, pick-false}
 use Rattle.rules.proofs.Sublists.{sub-refl, sub-empty, sub-front, sub-in, sub-out, sub-distinct, sub-gathered, append-none, thinned-sub, sub-trans}
 use Rattle.rules.proofs.Thinning.{thinned-block}
-use Rattle.laws.specs.Allowances.{Counts, no-counts, plus, row-counts, rows-counts, block-counts, blocks-counts, outside-components, function-counts, tally, walk-counts}
+use Rattle.laws.specs.Allowances.{rest-counts, Counts, no-counts, plus, row-counts, rows-counts, block-counts, blocks-counts, outside-components, function-counts, tally, walk-counts}
 use Rattle.laws.specs.Taking.{Price, passing, going-back, relisting, block-takes, blocks-take, takes}
 use Rattle.laws.proofs.Onward.{add-none}
 use Rattle.laws.proofs.Staying.{close-onward, close-keeps}
@@ -34,6 +34,17 @@ use Rattle.laws.proofs.Counting.{Le, le-refl, le-same, le-trans, le-plus, le-n
 tally-same : (a b : ℕ → Counts) (xs : List ℕ) → ((x : ℕ) → In x xs → a x ≡ b x) → tally a xs ≡ tally b xs
 tally-same a b [] h = refl
 tally-same a b (x ∷ xs) h = ap₂ plus (h x (in-head x xs)) (tally-same a b xs (λ y q. h y (or-right (eqb y x) (within y xs) q)))
+
+-- what is reached rests on the functions that are reached
+gathered-same : {A : Type 0} (a b : ℕ → List A) (ys : List ℕ) → ((y : ℕ) → In y ys → a y ≡ b y) → gathered a ys ≡ gathered b ys
+gathered-same a b [] h = refl
+gathered-same a b (y ∷ ys) h = ap₂ (λ l n. l ++ n) (h y (in-head y ys)) (gathered-same a b ys (λ z q. h z (or-right (eqb z y) (within z ys) q)))
+
+in-gather : (a : ℕ → List ℕ) (x y : ℕ) (ys : List ℕ) → In y ys → In x (a y) → In x (gathered a ys)
+in-gather a x y [] h k = absurd (both-ways false refl h)
+in-gather a x y (z ∷ ys) h k = elim (or-cases (eqb y z) (within y ys) h) [
+    inl e ↦ in-left x (a z) (gathered a ys) (subst (λ n. In x (a n)) (eqb-true y z e) k)
+  | inr e ↦ in-right x (a z) (gathered a ys) (in-gather a x y ys e k) ]
 
 -- The blocks that are still to be walked.
 
@@ -155,7 +166,20 @@ module _ (m : Meaning) (lawful : Lawful m) (n₀ : ℕ) (p : Price) (Ok : ℕ �
     pub growing : length (h .functions) ≤ length (outline-jsx-impl d m h x .hir .functions)
     pub untouched : (g : ℕ) → Out g (on-walk d h x) → g < length (h .functions) → function-at (outline-jsx-impl d m h x .hir) g ≡ function-at h g
 
-  module _ (d : ℕ) (ih : (h : Hir) (x : ℕ) → n₀ ≤ length (h .functions) → Fine d h x → Result d h x) (h₀ : Hir) (f : ℕ) (big : n₀ ≤ length (h₀ .functions)) (fine₀ : Fine (suc d) h₀ f) where
+  -- what is left of a function's walk from block k on is fine
+  pub record Rest (d : ℕ) (h : Hir) (f k : ℕ) : Type 0 where
+    pub low : f < n₀
+    pub distinct : Distinct (f ∷ gathered (on-walk d h) (inner-of (drop k (function-at h f .blocks))))
+    pub each : (g : ℕ) → In g (gathered (on-walk d h) (inner-of (drop k (function-at h f .blocks)))) → (g < n₀) × Ok-function (function-at h g)
+    pub own : (j : ℕ) → k ≤ j → Ok (function-at h f .type) (block-rows (function-at h f .blocks) j)
+
+  rest-of-fine : (d : ℕ) (h : Hir) (f : ℕ) → Fine (suc d) h f → Rest d h f 0
+  rest-of-fine d h f a =
+      let reach : List ℕ = gathered (on-walk d h) (inner-of (function-at h f .blocks)) in
+      let mine = a .each f (in-head f reach) in
+      record { low = mine .0; distinct = a .distinct; each = λ g q. a .each g (or-right (eqb g f) (within g reach) q); own = λ j l. mine .1 j }
+
+  module _ (d : ℕ) (ih : (h : Hir) (x : ℕ) → n₀ ≤ length (h .functions) → Fine d h x → Result d h x) (h₀ : Hir) (f k₀ : ℕ) (big : n₀ ≤ length (h₀ .functions)) (fine₀ : Rest d h₀ f k₀) where
     abbrev bs₀ : List BlockV
     bs₀ = function-at h₀ f .blocks
 
@@ -168,18 +192,19 @@ module _ (m : Meaning) (lawful : Lawful m) (n₀ : ℕ) (p : Price) (Ok : ℕ �
     abbrev reached-counts : List ℕ → Counts
     reached-counts xs = tally count₀ (Reach xs)
 
-    f-here : In f (on-walk (suc d) h₀ f)
-    f-here = in-head f (Reach (inner-of bs₀))
+    -- the functions that the rest of the walk comes to
+    abbrev Reached : List ℕ
+    Reached = Reach (inner-of (drop k₀ bs₀))
 
     f-low : f < n₀
-    f-low = fine₀ .each f f-here .0
+    f-low = fine₀ .low
 
     -- what is still to be walked is as it was
     record Clean (s : Hir) (todo : List ℕ) : Type 0 where
       pub distinct : Distinct (Reach todo)
       pub apart : Out f (Reach todo)
       pub same : (g : ℕ) → In g (Reach todo) → function-at s g ≡ function-at h₀ g
-      pub reached : (g : ℕ) → In g (Reach todo) → In g (Reach (inner-of bs₀))
+      pub reached : (g : ℕ) → In g (Reach todo) → In g Reached
 
     clean-sub : (s : Hir) {xs ys : List ℕ} → Sublist xs ys → Clean s ys → Clean s xs
     clean-sub s b c = record {
@@ -191,18 +216,19 @@ module _ (m : Meaning) (lawful : Lawful m) (n₀ : ℕ) (p : Price) (Ok : ℕ �
     clean-same : (s t : Hir) (todo : List ℕ) → ((g : ℕ) → In g (Reach todo) → function-at t g ≡ function-at s g) → Clean s todo → Clean t todo
     clean-same s t todo e c = record { distinct = c .distinct; apart = c .apart; same = λ g i. e g i ∙ c .same g i; reached = c .reached }
 
-    reach-low : (g : ℕ) → In g (Reach (inner-of bs₀)) → g < n₀
-    reach-low g i = fine₀ .each g (or-right (eqb g f) (within g (Reach (inner-of bs₀))) i) .0
+    reach-low : (g : ℕ) → In g Reached → g < n₀
+    reach-low g i = fine₀ .each g i .0
 
     -- between blocks
     record Between (s : Hir) (gs : List InstructionV) (k : ℕ) : Type 0 where
+      pub from : k₀ ≤ k
       pub growing : length (h₀ .functions) ≤ length (s .functions)
       pub part : (j : ℕ) → k ≤ j → Sublist (block-rows (function-at s f .blocks) j) (block-rows bs₀ j)
       pub len : length (function-at s f .blocks) ≡ length bs₀
       pub type : function-at s f .type ≡ function-at h₀ f .type
       pub loads : (i : InstructionV) → Lists gs i → Load-ok (function-at h₀ f .type) i
       pub clean : Clean s (inner-of (drop k (function-at s f .blocks)))
-      pub untouched : (g : ℕ) → Out g (on-walk (suc d) h₀ f) → g < length (h₀ .functions) → function-at s g ≡ function-at h₀ g
+      pub untouched : (g : ℕ) → Out g (f ∷ Reached) → g < length (h₀ .functions) → function-at s g ≡ function-at h₀ g
 
     module _ (c : Hir) (gs : List InstructionV) (k : ℕ) (start : Between c gs k) (short : k < length (function-at c f .blocks)) where
       abbrev bs : List BlockV
@@ -218,7 +244,7 @@ module _ (m : Meaning) (lawful : Lawful m) (n₀ : ℕ) (p : Price) (Ok : ℕ �
       later = inner-of (drop (suc k) bs)
 
       ok : Ok type rows
-      ok = subst (λ z. Ok z rows) (sym (start .type)) (kept .ok-sub (start .part k (omega arith)) (fine₀ .each f f-here .1 k))
+      ok = subst (λ z. Ok z rows) (sym (start .type)) (kept .ok-sub (start .part k (omega arith)) (fine₀ .own k (start .from)))
 
       -- within block k
       record Inside (w : Walk) (todo back : List InstructionV) : Type 0 where
@@ -231,7 +257,7 @@ module _ (m : Meaning) (lawful : Lawful m) (n₀ : ℕ) (p : Price) (Ok : ℕ �
         pub two : (v : Rewrite) → Lists (w .rewrites) v → length (v .rows) ≡ 2
         pub component : eqb type 0 ≡ true → w .rewrites ≡ []
         pub clean : Clean (w .hir) (inner todo ++ later)
-        pub untouched : (g : ℕ) → Out g (on-walk (suc d) h₀ f) → g < length (h₀ .functions) → function-at (w .hir) g ≡ function-at h₀ g
+        pub untouched : (g : ℕ) → Out g (f ∷ Reached) → g < length (h₀ .functions) → function-at (w .hir) g ≡ function-at h₀ g
 
       closed-inside : (w : Walk) (todo back : List InstructionV) → Inside w todo back → Inside (process-and-outline-jsx type w) todo back
       closed-inside w todo back n =
@@ -307,7 +333,7 @@ module _ (m : Meaning) (lawful : Lawful m) (n₀ : ℕ) (p : Price) (Ok : ℕ �
             distinct = subst Distinct (sym same-mine) (distinct-left mine (Reach rest) (cl .distinct));
             each = λ g q.
               let q′ = in-left g mine (Reach rest) (subst (λ (l : List ℕ). In g l) same-mine q) in
-              let e₀ = fine₀ .each g (or-right (eqb g f) (within g (Reach (inner-of bs₀))) (cl .reached g q′)) in
+              let e₀ = fine₀ .each g (cl .reached g q′) in
               (e₀ .0, subst Ok-function (sym (cl .same g q′)) (e₀ .1)) }
 
         res : Result d (w .hir) x
@@ -329,7 +355,7 @@ module _ (m : Meaning) (lawful : Lawful m) (n₀ : ℕ) (p : Price) (Ok : ℕ �
               two = n .two;
               component = n .component;
               clean = clean-same (w .hir) (outline-jsx-impl d m (w .hir) x .hir) rest (λ g q. res .untouched g (out g (out-if g mine (λ a′. in-out g (Reach rest) q (distinct-apart g mine (Reach rest) (cl .distinct) a′)))) (let lw = reach-low g (cl .reached g (in-right g mine (Reach rest) q)) in omega arith)) (clean-sub (w .hir) (skips (sub-refl rest)) cl);
-              untouched = λ g o l. res .untouched g (out g (out-if g mine (λ a′. in-out g (on-walk (suc d) h₀ f) (or-right (eqb g f) (within g (Reach (inner-of bs₀))) (cl .reached g (in-left g mine (Reach rest) a′))) o))) (omega arith) ∙ n .untouched g o l }
+              untouched = λ g o l. res .untouched g (out g (out-if g mine (λ a′. in-out g (f ∷ Reached) (or-right (eqb g f) (within g Reached) (cl .reached g (in-left g mine (Reach rest) a′))) o))) (omega arith) ∙ n .untouched g o l }
 
       pass-inside : (w : Walk) (i : InstructionV) (todo back : List InstructionV) → Lists rows i → Inside w (i ∷ todo) back → Inside (passed (outline-jsx-impl d m) type w i) todo (i ∷ back)
       pass-inside w i todo back l n = passed-ways (λ v. Inside v todo (i ∷ back)) (outline-jsx-impl d m) type w i
@@ -421,9 +447,10 @@ module _ (m : Meaning) (lawful : Lawful m) (n₀ : ℕ) (p : Price) (Ok : ℕ �
 
         idle-block : Passed-block hv (v .globals)
         idle-block =
-            let a = start .growing in let b = n .growing in
+            let a = start .growing in let b = n .growing in let fr = start .from in
             record {
               between = record {
+                from = omega arith;
                 growing = omega arith;
                 part = λ j l. subst (λ (g : FunctionV). Sublist (block-rows (g .blocks) j) (block-rows bs₀ j)) (sym (n .same-f)) (start .part j (omega arith));
                 len = ap (λ (g : FunctionV). length (g .blocks)) (n .same-f) ∙ start .len;
@@ -482,16 +509,17 @@ module _ (m : Meaning) (lawful : Lawful m) (n₀ : ℕ) (p : Price) (Ok : ℕ �
         changed-block : Passed-block h₂ (v .globals)
         changed-block =
             let a = start .growing in let b = n .growing in
-            let l₁ = length-changed Fn₁ f (hv .functions) in let l₂ = length-changed Fn₂ f (h₁ .functions) in
+            let l₁ = length-changed Fn₁ f (hv .functions) in let l₂ = length-changed Fn₂ f (h₁ .functions) in let fr = start .from in
             record {
               between = record {
+                from = omega arith;
                 growing = omega arith;
                 part = part₂;
                 len = ap (λ (g : FunctionV). length (g .blocks)) at₂ ∙ listing-length (function-at h₁ f .blocks) (m h₁ f) ∙ ap (λ (g : FunctionV). length (g .blocks)) at₁ ∙ length-changed (λ b. with-rows b new-rows) k (function-at hv f .blocks) ∙ ap (λ (g : FunctionV). length (g .blocks)) (n .same-f) ∙ start .len;
                 type = ap (λ (g : FunctionV). g .type) at₂ ∙ ap (λ (g : FunctionV). g .type) at₁ ∙ ap (λ (g : FunctionV). g .type) (n .same-f) ∙ start .type;
                 loads = λ i l. subst (λ z. Load-ok z i) (start .type) (n .loads i l);
                 clean = clean-sub h₂ inside₂ (clean-same hv h₂ later (λ g q. there₂ g (λ e. in-out f (Reach later) (subst (λ x. In x (Reach later)) e q) (n .clean .apart))) (n .clean));
-                untouched = λ g o l. there₂ g (λ e. in-out f (on-walk (suc d) h₀ f) f-here (subst (λ z. Out z (on-walk (suc d) h₀ f)) e o)) ∙ n .untouched g o l };
+                untouched = λ g o l. there₂ g (λ e. in-out f (f ∷ Reached) (in-head f Reached) (subst (λ z. Out z (f ∷ Reached)) e o)) ∙ n .untouched g o l };
               counts = counts₂;
               inside = inside₂ }
 
@@ -593,21 +621,76 @@ module _ (m : Meaning) (lawful : Lawful m) (n₀ : ℕ) (p : Price) (Ok : ℕ �
         kept .more (plus (plus u c) (to-come (suc k) (v .hir))) (plus u (to-come k (w .hir))) (omega arith)
           (resum (y + t + r) (y + (t + r)) (omega arith) (blocks-related n v (suc k) (passed-block w k b s .between) (omega arith) (y + t) (plus u c) (block-related w k b s y u q)))
 
-    first-between : Between h₀ [] 0
-    first-between = record {
-        growing = omega arith; part = λ j l. sub-refl (block-rows bs₀ j); len = refl; type = refl; loads = λ i l. lists-none l;
+    first-between : (gs : List InstructionV) → ((i : InstructionV) → Lists gs i → Load-ok (function-at h₀ f .type) i) → Between h₀ gs k₀
+    first-between gs loads = record {
+        from = omega arith; growing = omega arith; part = λ j l. sub-refl (block-rows bs₀ j); len = refl; type = refl; loads = loads;
         clean = record { distinct = fine₀ .distinct .1; apart = fine₀ .distinct .0; same = λ g q. refl; reached = λ g q. q };
         untouched = λ g o l. refl }
 
-    walk-result : Result (suc d) h₀ f
-    walk-result =
-        let b = blocks-between (length bs₀) (start-block h₀ [] nothing) 0 first-between (omega arith) in
-        let t = blocks-take (length bs₀) p m (outline-jsx-impl d m) (takes p d m) f 0 (start-block h₀ [] nothing) in
+    -- what is left from block k on, as it then stands
+    rest-between : (s : Hir) (gs : List InstructionV) (k : ℕ) → Between s gs k → Rest d s f k
+    rest-between s gs k b =
+        let todo = inner-of (drop k (function-at s f .blocks)) in
+        let same-reach : gathered (on-walk d s) todo ≡ Reach todo = gathered-same (on-walk d s) (on-walk d h₀) todo (λ y i. same-walk h₀ s d y (λ g q. b .clean .same g (in-gather (on-walk d h₀) g y todo i q))) in
         record {
-          related = kept .more (plus no-counts (to-come 0 h₀)) (walk-counts (suc d) h₀ f) (omega arith) (resum (0 + t) t (omega arith) (blocks-related (length bs₀) (start-block h₀ [] nothing) 0 first-between (omega arith) 0 no-counts (kept .same h₀)));
-          growing = b .growing;
-          untouched = b .untouched }
+          low = f-low;
+          distinct = (subst (λ (l : List ℕ). Out f l) (sym same-reach) (b .clean .apart), subst Distinct (sym same-reach) (b .clean .distinct));
+          each = λ g q.
+            let q′ = subst (λ (l : List ℕ). In g l) same-reach q in
+            let e = fine₀ .each g (b .clean .reached g q′) in
+            (e .0, subst Ok-function (sym (b .clean .same g q′)) (e .1));
+          own = λ j l. (let fr = b .from in subst (λ z. Ok z (block-rows (function-at s f .blocks) j)) (sym (b .type)) (kept .ok-sub (b .part j l) (fine₀ .own j (omega arith)))) }
+
+  walk-result : (d : ℕ) → ((h : Hir) (x : ℕ) → n₀ ≤ length (h .functions) → Fine d h x → Result d h x) → (h : Hir) (f : ℕ) → n₀ ≤ length (h .functions) → Fine (suc d) h f → Result (suc d) h f
+  walk-result d ih h f big fine =
+      let rest = rest-of-fine d h f fine in
+      let n = length (function-at h f .blocks) in
+      let first = first-between d ih h f 0 big rest [] (λ i l. lists-none l) in
+      let b = blocks-between d ih h f 0 big rest n (start-block h [] nothing) 0 first (omega arith) in
+      let t = blocks-take n p m (outline-jsx-impl d m) (takes p d m) f 0 (start-block h [] nothing) in
+      record {
+        related = kept .more (plus no-counts (rest-counts d h f 0)) (walk-counts (suc d) h f) (omega arith) (resum (0 + t) t (omega arith) (blocks-related d ih h f 0 big rest n (start-block h [] nothing) 0 first (omega arith) 0 no-counts (kept .same h)));
+        growing = b .growing;
+        untouched = b .untouched }
 
   pub walk-kept : (d : ℕ) (h : Hir) (x : ℕ) → n₀ ≤ length (h .functions) → Fine d h x → Result d h x
   walk-kept zero h x big fine = record { related = kept .same h; growing = omega arith; untouched = λ g o l. refl }
   walk-kept (suc d) h x big fine = walk-result d (walk-kept d) h x big fine
+
+  -- One block of a walk: its share, and what is left after it.
+  module _ (d : ℕ) (h : Hir) (f k : ℕ) (gs : List InstructionV) (r : Report) (big : n₀ ≤ length (h .functions)) (rest : Rest d h f k) (loads : (i : InstructionV) → Lists gs i → Load-ok (function-at h f .type) i) (short : k < length (function-at h f .blocks)) where
+    abbrev began : Walk
+    began = start-block h gs r
+
+    abbrev went : Walk
+    went = walk-block m (outline-jsx-impl d m) f k began
+
+    pub record Block-kept : Type 0 where
+      pub paid : Counts
+      pub within : Le (plus paid (rest-counts d (went .hir) f (suc k))) (rest-counts d h f k)
+      pub related : R h (went .hir) (went .report) (block-takes p (outline-jsx-impl d m) (takes p d m) f k began) paid
+      pub next : Rest d (went .hir) f (suc k)
+      pub next-loads : (i : InstructionV) → Lists (went .globals) i → Load-ok (function-at (went .hir) f .type) i
+      pub len : length (function-at (went .hir) f .blocks) ≡ length (function-at h f .blocks)
+
+    pub block-kept : R h h r 0 no-counts → Block-kept
+    block-kept begin =
+        let ih = walk-kept d in
+        let first = first-between d ih h f k big rest gs loads in
+        let pb = passed-block d ih h f k big rest began k first short in
+        let b = pb .between in
+        let t = block-takes p (outline-jsx-impl d m) (takes p d m) f k began in
+        let c = plus (outside-components (function-at h f .type) (block-counts (rows-at h f k))) (tally (λ g. function-counts (function-at h g)) (gathered (on-walk d h) (inner (backwards (rows-at h f k))))) in
+        let todo = inner-of (drop (suc k) (function-at (went .hir) f .blocks)) in
+        let same-reach : gathered (on-walk d (went .hir)) todo ≡ gathered (on-walk d h) todo = gathered-same (on-walk d (went .hir)) (on-walk d h) todo (λ y i. same-walk h (went .hir) d y (λ g q. b .clean .same g (in-gather (on-walk d h) g y todo i q))) in
+        let same-counts : tally (λ g. function-counts (function-at (went .hir) g)) (gathered (on-walk d (went .hir)) todo) ≡ tally (λ g. function-counts (function-at h g)) (gathered (on-walk d h) todo) = ap (tally (λ g. function-counts (function-at (went .hir) g))) same-reach ∙ tally-same (λ g. function-counts (function-at (went .hir) g)) (λ g. function-counts (function-at h g)) (gathered (on-walk d h) todo) (λ g q. ap function-counts (b .clean .same g q)) in
+        let l₁ = le-same (tally (λ g. function-counts (function-at (went .hir) g)) (gathered (on-walk d (went .hir)) todo)) (tally (λ g. function-counts (function-at h g)) (gathered (on-walk d h) todo)) same-counts in
+        let l₂ = le-same (outside-components (function-at (went .hir) f .type) (blocks-counts (drop (suc k) (function-at (went .hir) f .blocks)))) (outside-components (function-at h f .type) (blocks-counts (drop (suc k) (function-at (went .hir) f .blocks)))) (ap (λ (z : ℕ). outside-components z (blocks-counts (drop (suc k) (function-at (went .hir) f .blocks)))) (b .type)) in
+        let l₃ = block-share-of d ih h f k big rest began k first short in
+        record {
+          paid = c;
+          within = omega arith;
+          related = kept .more (plus no-counts c) c (omega arith) (resum (0 + t) t (omega arith) (block-related d ih h f k big rest began k first short 0 no-counts begin));
+          next = rest-between d ih h f k big rest (went .hir) (went .globals) (suc k) b;
+          next-loads = λ i l. subst (λ z. Load-ok z i) (sym (b .type)) (b .loads i l);
+          len = b .len }

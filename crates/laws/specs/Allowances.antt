@@ -2,13 +2,12 @@
 use Prim.Native.Nat.{ℕ, _+_, _*_, _/_}
 use mathlib.Core.Bool.{true, false}
 use mathlib.Core.List.{List, [], _∷_}
-use lib.ListN.{length}
+use lib.ListN.{length, drop}
 use lib.Dec.{eqb, leb}
-use Rattle.rules.specs.Lists.{select}
+use Rattle.rules.specs.Lists.{select, gathered}
 use Rattle.rules.specs.Views.{PlaceV, InstructionV, BlockV, FunctionV, Hir, role-is, is-element, function-at}
 use Rattle.rules.specs.Names.{spell}
-use Rattle.rules.specs.Outline.{children}
-use Rattle.rules.specs.Drawn.{on-walk}
+use Rattle.rules.specs.Drawn.{inner-of, on-walk}
 
 -- What is counted: attributes, children, elements, the elements of each block halved, the rows of new lists, and the bytes of attribute names.
 pub record Counts : Type 0 where
@@ -82,6 +81,12 @@ tally c (x ∷ xs) = plus (c x) (tally c xs)
 -- the functions on the walk from a function, to a depth
 abbrev pub walk-counts : ℕ → Hir → ℕ → Counts
 walk-counts d h f = tally (λ g. function-counts (function-at h g)) (on-walk d h f)
+
+-- what is left of the walk through a function from block k on, with the functions that are reached from there
+abbrev pub rest-counts : ℕ → Hir → ℕ → ℕ → Counts
+rest-counts d h f k =
+    let bs : List BlockV = drop k (function-at h f .blocks) in
+    plus (outside-components (function-at h f .type) (blocks-counts bs)) (tally (λ g. function-counts (function-at h g)) (gathered (on-walk d h) (inner-of bs)))
 
 -- The allowances, table by table.
 

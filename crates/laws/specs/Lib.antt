@@ -4,5 +4,6 @@ pub mod Reports
 pub mod Allowances
 pub mod Taking
 pub mod Sufficing
+pub mod Sharing
 pub mod Ceilings
 pub mod Worked

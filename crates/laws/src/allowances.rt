@@ -1,9 +1,10 @@
 // How much an outline may take of each table, by what was counted on the functions that it walks: attributes, children, elements, pairs
 // (the elements of each block halved), listed rows and the bytes of attribute names.
 ghost use mathlib.Core.Path.{_≡_};
-ghost use Prim.Native.Nat.{_^_, _<_};
+ghost use Prim.Native.Nat.{_^_, _<_, _≤_};
 ghost use Rattle.laws.specs.Allowances.{pairs-of, listed-of, identifiers-allowance, instructions-allowance, numbers-allowance, places-allowance, blocks-allowance, functions-allowance, text-allowance, identifiers-allowed};
 ghost use Rattle.laws.specs.Sufficing.{Identifiers-suffice, Instructions-suffice, Numbers-suffice, Places-suffice, Blocks-suffice, Functions-suffice};
+ghost use Rattle.laws.specs.Sharing.{blocks-left, Every-block-within-its-share};
 ghost use Rattle.laws.specs.Ceilings.{Text-suffices};
 ghost use Rattle.laws.specs.Worked.{tile-counts, Worked-allowances};
 
@@ -73,6 +74,16 @@ pub fn text_allowance(letters: u64, attributes: u64, children: u64, pairs: u64) 
     ensures suffices { λ _. ⌜ Text-suffices ⌝ }
 {
     letters + 10 * attributes + 23 * children + 39 * pairs
+}
+
+// The blocks of a function that are still to be walked. With what they and the functions reached from them are allowed, what is used
+// does not rise from block to block.
+pub fn blocks_left(blocks: u32, walked: u32) -> u32
+    requires { ⌜ walked ≤ blocks ⌝ }
+    ensures left { λ r. ⌜ r ≡ blocks-left blocks walked ⌝ }
+    ensures shares { λ _. ⌜ Every-block-within-its-share ⌝ }
+{
+    blocks - walked
 }
 
 // The identifiers that the worked tile is allowed; and its other allowances, with what its outline takes.
