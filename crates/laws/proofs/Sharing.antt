@@ -1,26 +1,29 @@
 -- A block takes no more than its share, and leaves the rest as acceptable as it was.
 use Prim.Native.Nat.{ℕ, suc, _+_, _*_, _<_, _≤_}
 use native.Mathlib.Omega.{arith}
-use mathlib.Core.Path.{_≡_, refl}
+use mathlib.Core.Path.{_≡_, refl, sym, ap, _∙_, subst}
 use mathlib.Core.Logic.{inl, inr}
 use mathlib.Core.Bool.{true, _||_}
-use mathlib.Core.List.{List, [], _∷_}
-use lib.ListN.{length}
+use mathlib.Core.List.{List, [], _∷_, _++_}
+use lib.ListN.{length, drop}
 use lib.Dec.{eqb}
 use Rattle.std.proofs.shelf.Tests.{or-cases, or-right, eqb-true}
-use Rattle.rules.specs.Lists.{within, Lists}
-use Rattle.rules.specs.Views.{InstructionV, Hir, block-rows, function-at}
+use Rattle.rules.specs.Lists.{gathered, backwards, within, Distinct, Lists}
+use Rattle.rules.specs.Views.{InstructionV, Hir, rows-at, function-at}
 use Rattle.rules.specs.Emit.{Report}
 use Rattle.rules.specs.Eliminations.{Meaning, Lawful}
 use Rattle.rules.specs.Outline.{Walk, start-block, depth}
-use Rattle.rules.specs.Drawn.{Accepts}
-use Rattle.rules.proofs.Membership.{In, in-head, lists-none}
+use Rattle.rules.specs.Drawn.{inner, inner-of, on-walk, Accepts}
+use Rattle.rules.proofs.Blocks.{later-split}
+use Rattle.rules.proofs.Membership.{In, in-head, in-left, distinct-left, gathered-++, lists-none}
+use Rattle.rules.proofs.Positions.{backwards-twice}
+use Rattle.rules.proofs.Sublists.{append-none}
 use Rattle.laws.specs.Allowances.{Counts, numbers-allowed, places-allowed}
 use Rattle.laws.specs.Taking.{Price, numbers, places}
 use Rattle.laws.specs.Sufficing.{Walk-formed}
-use Rattle.laws.specs.Sharing.{Rows-accepted, reached-from, Still-accepted, Accepted-at-first, after-block, Block-within-share, Every-block-within-its-share}
+use Rattle.laws.specs.Sharing.{Rows-accepted, reached-from, Still-accepted, Accepted-at-first, after-block, Block-shared, Rows-still-accepted, Row-shared, Last-shared, Every-step-within-its-share}
 use Rattle.laws.proofs.Staying.{steps-go-onward}
-use Rattle.laws.proofs.Walks.{free, Kept, Rest, Block-kept, block-kept}
+use Rattle.laws.proofs.Walks.{free, Kept, Rest, Block-kept, block-kept, Rows-fine, row-kept, last-kept}
 use Rattle.laws.proofs.Sufficing.{Ok, Load-ok, Shown, shown-kept, numbers-kept, places-kept, ok-walk}
 
 accepted-at-first : (h : Hir) (f : ℕ) → Accepts h f → Walk-formed depth h f → Accepted-at-first h f
@@ -72,15 +75,68 @@ module _ (m : Meaning) (lawful : Lawful m) (d : ℕ) (h : Hir) (f k : ℕ) (glob
         inner = λ g q. n .each g q .1;
         loads = shown .next-loads }
 
-  block-within-share : Block-within-share m d h f k globals r
-  block-within-share =
+  block-shared : Block-shared m d h f k globals r
+  block-shared =
       let sw = shown .within in let sr = shown .related in
       let si = sr .identifiers in let su = sr .instructions in let sb = sr .blocks in let sf = sr .functions in
       let lw = listed .within in let lr = listed .related in
       let pw = placed .within in let pr = placed .related in
       record {
-        identifiers = omega arith; instructions = omega arith; numbers-taken = omega arith; places-taken = omega arith; blocks = omega arith; functions = omega arith;
+        share = record { identifiers = omega arith; instructions = omega arith; numbers = omega arith; places = omega arith; blocks = omega arith; functions = omega arith };
         next = still; len = shown .len }
 
-pub every-block-within-its-share : Every-block-within-its-share
-every-block-within-its-share = (accepted-at-first, block-within-share)
+-- The rows of a block.
+
+rows-begin : (d : ℕ) (h : Hir) (f k : ℕ) (globals : List InstructionV) (r : Report) → Still-accepted d h f k globals → k < length (function-at h f .blocks) → Rows-still-accepted d (start-block h globals r) (backwards (rows-at h f k))
+rows-begin d h f k globals r a short =
+    let bs = function-at h f .blocks in
+    let rows = rows-at h f k in
+    let mine = gathered (on-walk d h) (inner (backwards rows)) in
+    let later = gathered (on-walk d h) (inner-of (drop (suc k) bs)) in
+    let e : reached-from d h f k ≡ mine ++ later = ap (gathered (on-walk d h)) (later-split bs k short) ∙ gathered-++ (on-walk d h) (inner (backwards rows)) (inner-of (drop (suc k) bs)) in
+    let in-all : (g : ℕ) → In g mine → In g (reached-from d h f k) = λ g q. subst (λ (l : List ℕ). In g l) (sym e) (in-left g mine later q) in
+    record {
+      once = distinct-left mine later (subst Distinct e (a .once .1));
+      used = λ g q. a .used g (or-right (eqb g f) (within g (reached-from d h f k)) (in-all g q));
+      inner = λ g q. a .inner g (in-all g q);
+      own = subst Rows-accepted (sym (append-none (backwards (backwards rows)) ∙ backwards-twice rows)) (a .own k (omega arith));
+      elements = λ i l. lists-none l;
+      loads = a .loads }
+
+module _ (m : Meaning) (lawful : Lawful m) (d type : ℕ) (w : Walk) (todo : List InstructionV) (a : Rows-still-accepted d w todo) where
+  abbrev used₀ : ℕ
+  used₀ = length (w .hir .functions)
+
+  pub fine : (p : Price) (R : Hir → Hir → Report → ℕ → Counts → Type 0) (kept : Kept m used₀ p Ok Load-ok R) → Rows-fine m lawful used₀ p Ok Load-ok R kept d type w todo
+  fine p R kept = record { big = omega arith; distinct = a .once; each = λ g q. (a .used g q, a .inner g q); own = a .own; jsx = a .elements; loads = a .loads }
+
+row-shared : (m : Meaning) → Lawful m → (d type : ℕ) (w : Walk) (i : InstructionV) (todo : List InstructionV) → Rows-still-accepted d w (i ∷ todo) → Row-shared m d type w i todo
+row-shared m lawful d type w i todo a =
+    let n₀ = length (w .hir .functions) in
+    let s = row-kept m lawful n₀ free Ok Load-ok (λ a b r s c. Shown a b c) (shown-kept m n₀) d type w i todo (fine m lawful d type w (i ∷ todo) a free (λ a b r s c. Shown a b c) (shown-kept m n₀)) in
+    let l = row-kept m lawful n₀ numbers Ok Load-ok (λ a b r s c. s ≤ numbers-allowed c) (numbers-kept m n₀) d type w i todo (fine m lawful d type w (i ∷ todo) a numbers (λ a b r s c. s ≤ numbers-allowed c) (numbers-kept m n₀)) in
+    let p = row-kept m lawful n₀ places Ok Load-ok (λ a b r s c. s ≤ places-allowed c) (places-kept m n₀) d type w i todo (fine m lawful d type w (i ∷ todo) a places (λ a b r s c. s ≤ places-allowed c) (places-kept m n₀)) in
+    let sw = s .within in let sr = s .related in
+    let si = sr .identifiers in let su = sr .instructions in let sb = sr .blocks in let sf = sr .functions in
+    let lw = l .within in let lr = l .related in
+    let pw = p .within in let pr = p .related in
+    let f = s .fine in
+    let big = f .big in
+    record {
+      share = record { identifiers = omega arith; instructions = omega arith; numbers = omega arith; places = omega arith; blocks = omega arith; functions = omega arith };
+      next = record { once = f .distinct; used = λ g q. (let x = f .each g q .0 in omega arith); inner = λ g q. f .each g q .1; own = f .own; elements = f .jsx; loads = f .loads } }
+
+last-shared : (m : Meaning) → Lawful m → (d type : ℕ) (w : Walk) → Rows-still-accepted d w [] → Last-shared d type w
+last-shared m lawful d type w a =
+    let n₀ = length (w .hir .functions) in
+    let s = last-kept m lawful n₀ free Ok Load-ok (λ a b r s c. Shown a b c) (shown-kept m n₀) d type w (fine m lawful d type w [] a free (λ a b r s c. Shown a b c) (shown-kept m n₀)) in
+    let l = last-kept m lawful n₀ numbers Ok Load-ok (λ a b r s c. s ≤ numbers-allowed c) (numbers-kept m n₀) d type w (fine m lawful d type w [] a numbers (λ a b r s c. s ≤ numbers-allowed c) (numbers-kept m n₀)) in
+    let p = last-kept m lawful n₀ places Ok Load-ok (λ a b r s c. s ≤ places-allowed c) (places-kept m n₀) d type w (fine m lawful d type w [] a places (λ a b r s c. s ≤ places-allowed c) (places-kept m n₀)) in
+    let sw = s .within in let sr = s .related in
+    let si = sr .identifiers in let su = sr .instructions in let sb = sr .blocks in let sf = sr .functions in
+    let lw = l .within in let lr = l .related in
+    let pw = p .within in let pr = p .related in
+    record { identifiers = omega arith; instructions = omega arith; numbers = omega arith; places = omega arith; blocks = omega arith; functions = omega arith }
+
+pub every-step-within-its-share : Every-step-within-its-share
+every-step-within-its-share = record { begins = accepted-at-first; block = block-shared; rows = rows-begin; row = row-shared; last = last-shared }

@@ -19,13 +19,13 @@ use Rattle.rules.specs.Outline.{Walk, rewritten, process-and-outline-jsx, joine
 use Rattle.rules.specs.Drawn.{inner, inner-of, on-walk}
 use Rattle.rules.proofs.Blocks.{changed-there, listing-length, later-changed, later-thinned, later-split}
 use Rattle.rules.proofs.Reached.{same-walk}
-use Rattle.rules.proofs.Membership.{out-if, In, Out, in-out, in-left, in-right, in-head, out-parts, distinct-left, distinct-apart, gathered-++, lists-none, lists-head, lists-right, lists-split}
+use Rattle.rules.proofs.Membership.{out-if, In, Out, in-out, in-left, in-right, in-head, out-parts, distinct-left, distinct-right, distinct-apart, gathered-++, lists-none, lists-head, lists-left, lists-right, lists-split}
 use Rattle.rules.proofs.Positions.{backwards-twice, length-changed, at-changed, at-other}
 use Rattle.rules.proofs.Steps.{pick-true, pick-false}
-use Rattle.rules.proofs.Sublists.{sub-refl, sub-empty, sub-front, sub-in, sub-out, sub-distinct, sub-gathered, append-none, thinned-sub, sub-trans}
+use Rattle.rules.proofs.Sublists.{sub-refl, sub-empty, sub-front, sub-++, sub-in, sub-out, sub-distinct, sub-gathered, append-none, thinned-sub, sub-trans}
 use Rattle.rules.proofs.Thinning.{thinned-block}
-use Rattle.laws.specs.Allowances.{rest-counts, Counts, no-counts, plus, row-counts, rows-counts, block-counts, blocks-counts, outside-components, function-counts, tally, walk-counts}
-use Rattle.laws.specs.Taking.{Price, passing, going-back, relisting, block-takes, blocks-take, takes}
+use Rattle.laws.specs.Allowances.{rest-counts, open-counts, ahead-counts, Counts, no-counts, plus, row-counts, rows-counts, block-counts, blocks-counts, outside-components, function-counts, tally, walk-counts}
+use Rattle.laws.specs.Taking.{closing, Price, passing, going-back, relisting, block-takes, blocks-take, takes}
 use Rattle.laws.proofs.Onward.{add-none}
 use Rattle.laws.proofs.Staying.{close-onward, close-keeps}
 use Rattle.laws.proofs.Ways.{close-ways, with-load, with-outcome, passed-ways, passing-ways}
@@ -73,11 +73,7 @@ closing-counts [] = no-counts
 closing-counts (a ∷ []) = no-counts
 closing-counts (a ∷ b ∷ ms) = plus (rows-counts (a ∷ b ∷ ms)) (pair 1)
 
--- what the rows still to be passed and the open group may take
-abbrev open-counts : List InstructionV → List InstructionV → Counts
-open-counts todo ms = plus (plus (rows-counts todo) (rows-counts ms)) (pair ((rows-counts todo .elements + rows-counts ms .elements) / 2))
-
-abbrev All-elements : List InstructionV → Type 0
+abbrev pub All-elements : List InstructionV → Type 0
 All-elements ms = (i : InstructionV) → Lists ms i → is-element i ≡ true
 
 one : (i : InstructionV) → is-element i ≡ true → row-counts i .elements ≡ 1
@@ -694,3 +690,134 @@ module _ (m : Meaning) (lawful : Lawful m) (n₀ : ℕ) (p : Price) (Ok : ℕ �
           next = rest-between d ih h f k big rest (went .hir) (went .globals) (suc k) b;
           next-loads = λ i l. subst (λ z. Load-ok z i) (sym (b .type)) (b .loads i l);
           len = b .len }
+
+  -- The rows of a block, whatever block they are of.
+  module _ (d type : ℕ) where
+    -- the functions that the rows still to be passed come to
+    abbrev Ahead : Hir → List InstructionV → List ℕ
+    Ahead s todo = gathered (on-walk d s) (inner todo)
+
+    pub record Rows-fine (w : Walk) (todo : List InstructionV) : Type 0 where
+      pub big : n₀ ≤ length (w .hir .functions)
+      pub distinct : Distinct (Ahead (w .hir) todo)
+      pub each : (g : ℕ) → In g (Ahead (w .hir) todo) → (g < n₀) × Ok-function (function-at (w .hir) g)
+      pub own : Ok type (backwards todo ++ w .members)
+      pub jsx : All-elements (w .members)
+      pub loads : (i : InstructionV) → Lists (w .globals) i → Load-ok type i
+
+    abbrev ahead-of : Walk → List InstructionV → Counts
+    ahead-of w todo = ahead-counts d (w .hir) type (w .members) todo
+
+    pub record Row-kept (w : Walk) (todo : List InstructionV) (before : Counts) (t : ℕ) (h : Hir) : Type 0 where
+      pub report : Report
+      pub paid : Counts
+      pub related : R h (w .hir) report t paid
+      pub within : Le (plus paid (ahead-of w todo)) before
+      pub fine : Rows-fine w todo
+
+    -- functions still to be reached are as they were
+    ahead-same : (h s : Hir) (todo : List InstructionV) → ((g : ℕ) → In g (Ahead h todo) → function-at s g ≡ function-at h g) → Ahead s todo ≡ Ahead h todo
+    ahead-same h s todo e = gathered-same (on-walk d s) (on-walk d h) (inner todo) (λ y i. same-walk h s d y (λ g q. e g (in-gather (on-walk d h) g y (inner todo) i q)))
+
+    counts-same : (h s : Hir) (todo : List InstructionV) → ((g : ℕ) → In g (Ahead h todo) → function-at s g ≡ function-at h g) → tally (λ g. function-counts (function-at s g)) (Ahead s todo) ≡ tally (λ g. function-counts (function-at h g)) (Ahead h todo)
+    counts-same h s todo e = ap (tally (λ g. function-counts (function-at s g))) (ahead-same h s todo e) ∙ tally-same (λ g. function-counts (function-at s g)) (λ g. function-counts (function-at h g)) (Ahead h todo) (λ g q. ap function-counts (e g q))
+
+    -- what stays fine when functions still to be reached stay
+    fine-same : (w v : Walk) (todo : List InstructionV) → length (w .hir .functions) ≤ length (v .hir .functions) → ((g : ℕ) → In g (Ahead (w .hir) todo) → function-at (v .hir) g ≡ function-at (w .hir) g)
+      → n₀ ≤ length (w .hir .functions) → Distinct (Ahead (w .hir) todo) → ((g : ℕ) → In g (Ahead (w .hir) todo) → (g < n₀) × Ok-function (function-at (w .hir) g))
+      → Ok type (backwards todo ++ v .members) → All-elements (v .members) → ((i : InstructionV) → Lists (v .globals) i → Load-ok type i) → Rows-fine v todo
+    fine-same w v todo l e big distinct each own jsx loads =
+        let s = ahead-same (w .hir) (v .hir) todo e in
+        record {
+          big = omega arith;
+          distinct = subst Distinct (sym s) distinct;
+          each = λ g q. (let q′ = subst (λ (x : List ℕ). In g x) s q in let a = each g q′ in (a .0, subst Ok-function (sym (e g q′)) (a .1)));
+          own = own; jsx = jsx; loads = loads }
+
+    ahead-later : (h : Hir) (i : InstructionV) (todo : List InstructionV) → is-function i ≡ false → Ahead h (i ∷ todo) ≡ Ahead h todo
+    ahead-later h i todo n = ap (gathered (on-walk d h)) (pick-false (is-function i) (i .function ∷ inner todo) (inner todo) n)
+
+    own-order : (i : InstructionV) (todo ms : List InstructionV) → backwards (i ∷ todo) ++ ms ≡ backwards todo ++ (i ∷ ms)
+    own-order i todo ms = append-assoc (backwards todo) (i ∷ []) ms
+
+    module _ (w : Walk) (i : InstructionV) (todo : List InstructionV) (a : Rows-fine w (i ∷ todo)) where
+      own-joined : Ok type (backwards todo ++ (i ∷ w .members))
+      own-joined = subst (Ok type) (own-order i todo (w .members)) (a .own)
+
+      own-later : Ok type (backwards todo ++ w .members)
+      own-later = kept .ok-sub (sub-++ (sub-refl (backwards todo)) (skips (sub-refl (w .members)))) own-joined
+
+      own-first : Ok type (backwards todo ++ (i ∷ []))
+      own-first = kept .ok-sub (sub-++ (sub-refl (backwards todo)) (keeps (sub-empty (w .members)))) own-joined
+
+      own-members : Ok type (w .members)
+      own-members = kept .ok-sub (sub-front (backwards (i ∷ todo)) (sub-refl (w .members))) (a .own)
+
+      -- rows other than inner functions: the store may grow, but keeps its functions
+      plain : (v : Walk) (n : is-function i ≡ false) (t : ℕ) (paid : Counts) (r : Report) → R (w .hir) (v .hir) r t paid
+        → length (w .hir .functions) ≤ length (v .hir .functions) → ((g : ℕ) → g < length (w .hir .functions) → function-at (v .hir) g ≡ function-at (w .hir) g)
+        → Le (plus paid (outside-components type (open-counts todo (v .members)))) (outside-components type (open-counts (i ∷ todo) (w .members)))
+        → Ok type (backwards todo ++ v .members) → All-elements (v .members) → ((j : InstructionV) → Lists (v .globals) j → Load-ok type j) → Row-kept v todo (ahead-of w (i ∷ todo)) t (w .hir)
+      plain v n t paid r q l e le own jsx loads =
+          let s = ahead-later (w .hir) i todo n in
+          let in-s : (g : ℕ) → In g (Ahead (w .hir) todo) → In g (Ahead (w .hir) (i ∷ todo)) = λ g x. subst (λ (z : List ℕ). In g z) (sym s) x in
+          let each : (g : ℕ) → In g (Ahead (w .hir) todo) → (g < n₀) × Ok-function (function-at (w .hir) g) = λ g x. a .each g (in-s g x) in
+          let big = a .big in
+          let same : (g : ℕ) → In g (Ahead (w .hir) todo) → function-at (v .hir) g ≡ function-at (w .hir) g = λ g x. e g (let y = each g x .0 in omega arith) in
+          let c₁ = le-same (tally (λ g. function-counts (function-at (v .hir) g)) (Ahead (v .hir) todo)) (tally (λ g. function-counts (function-at (w .hir) g)) (Ahead (w .hir) todo)) (counts-same (w .hir) (v .hir) todo same) in
+          let c₂ = le-same (tally (λ g. function-counts (function-at (w .hir) g)) (Ahead (w .hir) todo)) (tally (λ g. function-counts (function-at (w .hir) g)) (Ahead (w .hir) (i ∷ todo))) (ap (tally (λ g. function-counts (function-at (w .hir) g))) (sym s)) in
+          record {
+            report = r; paid = paid; related = q; within = omega arith;
+            fine = fine-same w v todo l same big (subst Distinct s (a .distinct)) each own jsx loads }
+
+      here-listed : Lists (backwards (i ∷ todo) ++ w .members) i
+      here-listed = lists-left (w .members) (lists-right (backwards todo) here)
+
+      pub row-kept : Row-kept (passed (outline-jsx-impl d m) type w i) todo (ahead-of w (i ∷ todo)) (passing p (takes p d m) type w i) (w .hir)
+      row-kept = passing-ways (λ v t. Row-kept v todo (ahead-of w (i ∷ todo)) t (w .hir)) p (outline-jsx-impl d m) (takes p d m) type w i
+          (λ g. plain (with-load w i) (ap (λ (x : ℕ). eqb x 31) (eqb-true (i .kind) 29 g)) 0 no-counts nothing (kept .same (w .hir)) (omega arith) (λ g′ l. refl)
+            (let lo = outside-le type (open-counts todo (w .members)) (open-counts (i ∷ todo) (w .members)) (omega arith) in omega arith)
+            own-later (a .jsx) (λ j l. elim (lists-head l) [ inl e ↦ subst (Load-ok type) (sym e) (kept .ok-load type (backwards (i ∷ todo) ++ w .members) i (a .own) here-listed g) | inr k ↦ a .loads j k ]))
+          (λ _ h.
+            let x = i .function in
+            let mine = on-walk d (w .hir) x in
+            let s : Ahead (w .hir) (i ∷ todo) ≡ mine ++ Ahead (w .hir) todo = ap (gathered (on-walk d (w .hir))) (pick-true (is-function i) (x ∷ inner todo) (inner todo) h) in
+            let dist = subst Distinct s (a .distinct) in
+            let each : (g : ℕ) → In g (mine ++ Ahead (w .hir) todo) → (g < n₀) × Ok-function (function-at (w .hir) g) = λ g q. a .each g (subst (λ (z : List ℕ). In g z) (sym s) q) in
+            let res = walk-kept d (w .hir) x (a .big) (record { distinct = distinct-left mine (Ahead (w .hir) todo) dist; each = λ g q. each g (in-left g mine (Ahead (w .hir) todo) q) }) in
+            let v = with-outcome w (outline-jsx-impl d m (w .hir) x) in
+            let big = a .big in
+            let same : (g : ℕ) → In g (Ahead (w .hir) todo) → function-at (v .hir) g ≡ function-at (w .hir) g = λ g q. res .untouched g (out-if g mine (λ y. in-out g (Ahead (w .hir) todo) q (distinct-apart g mine (Ahead (w .hir) todo) dist y))) (let y = each g (in-right g mine (Ahead (w .hir) todo) q) .0 in omega arith) in
+            let cw : ℕ → Counts = λ g. function-counts (function-at (w .hir) g) in
+            let c₁ = le-same (tally (λ g. function-counts (function-at (v .hir) g)) (Ahead (v .hir) todo)) (tally cw (Ahead (w .hir) todo)) (counts-same (w .hir) (v .hir) todo same) in
+            let c₂ = tally-++ cw mine (Ahead (w .hir) todo) .0 in
+            let c₃ = le-same (tally cw (mine ++ Ahead (w .hir) todo)) (tally cw (Ahead (w .hir) (i ∷ todo))) (ap (tally cw) (sym s)) in
+            let lo = outside-le type (open-counts todo (w .members)) (open-counts (i ∷ todo) (w .members)) (omega arith) in
+            record {
+              report = outline-jsx-impl d m (w .hir) x .report; paid = walk-counts d (w .hir) x; related = res .related; within = omega arith;
+              fine = fine-same w v todo (res .growing) same big (distinct-right mine (Ahead (w .hir) todo) dist) (λ g q. each g (in-right g mine (Ahead (w .hir) todo) q)) own-later (a .jsx) (a .loads) })
+          (λ _ h j _. plain (joined w i) h 0 no-counts nothing (kept .same (w .hir)) (omega arith) (λ g′ l. refl)
+            (let lo = outside-le type (open-counts todo (i ∷ w .members)) (open-counts (i ∷ todo) (w .members)) (omega arith) in omega arith)
+            own-joined (λ k l. elim (lists-head l) [ inl e ↦ subst (λ (z : InstructionV). is-element z ≡ true) (sym e) j | inr l′ ↦ a .jsx k l′ ]) (a .loads))
+          (λ _ h j _.
+            let ms = w .members in
+            let o = process-jsx-group type (w .globals) ms (w .hir) in
+            plain (joined (process-and-outline-jsx type w) i) h (closing p type w) (outside-components type (closing-counts ms)) (o .report) (close-related type (w .globals) ms (w .hir) (a .loads) (a .jsx) own-members)
+              (close-onward type (w .globals) ms (w .hir) .functions) (λ g′ l. close-keeps type (w .globals) ms (w .hir) g′ l)
+              (outside-two type (closing-counts ms) (open-counts todo (i ∷ [])) (open-counts (i ∷ todo) ms) (open-close todo ms i j (a .jsx)))
+              own-first (λ k l. elim (lists-head l) [ inl e ↦ subst (λ (z : InstructionV). is-element z ≡ true) (sym e) j | inr l′ ↦ lists-none l′ ]) (a .loads))
+          (λ _ h e. plain w h 0 no-counts nothing (kept .same (w .hir)) (omega arith) (λ g′ l. refl)
+            (let lo = outside-le type (open-counts todo (w .members)) (open-counts (i ∷ todo) (w .members)) (omega arith) in omega arith)
+            own-later (a .jsx) (a .loads))
+
+    -- at the block's start the open group closes
+    pub record Last-kept (w : Walk) : Type 0 where
+      pub paid : Counts
+      pub related : R (w .hir) (process-and-outline-jsx type w .hir) (process-jsx-group type (w .globals) (w .members) (w .hir) .report) (closing p type w) paid
+      pub within : Le paid (ahead-of w [])
+
+    pub last-kept : (w : Walk) → Rows-fine w [] → Last-kept w
+    last-kept w a =
+        let ms = w .members in
+        let lo = outside-le type (closing-counts ms) (open-counts [] ms) (open-last ms (a .jsx)) in
+        record { paid = outside-components type (closing-counts ms); related = close-related type (w .globals) ms (w .hir) (a .loads) (a .jsx) (a .own); within = omega arith }

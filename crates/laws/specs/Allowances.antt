@@ -7,7 +7,7 @@ use lib.Dec.{eqb, leb}
 use Rattle.rules.specs.Lists.{select, gathered}
 use Rattle.rules.specs.Views.{PlaceV, InstructionV, BlockV, FunctionV, Hir, role-is, is-element, function-at}
 use Rattle.rules.specs.Names.{spell}
-use Rattle.rules.specs.Drawn.{inner-of, on-walk}
+use Rattle.rules.specs.Drawn.{inner, inner-of, on-walk}
 
 -- What is counted: attributes, children, elements, the elements of each block halved, the rows of new lists, and the bytes of attribute names.
 pub record Counts : Type 0 where
@@ -87,6 +87,15 @@ abbrev pub rest-counts : ℕ → Hir → ℕ → ℕ → Counts
 rest-counts d h f k =
     let bs : List BlockV = drop k (function-at h f .blocks) in
     plus (outside-components (function-at h f .type) (blocks-counts bs)) (tally (λ g. function-counts (function-at h g)) (gathered (on-walk d h) (inner-of bs)))
+
+-- what is left of a block: the rows still to be passed, the open group's members, the groups that these can make, and the inner functions
+abbrev pub open-counts : List InstructionV → List InstructionV → Counts
+open-counts todo members =
+    let c : Counts = plus (rows-counts todo) (rows-counts members) in
+    plus c (record { attributes = 0; children = 0; elements = 0; pairs = pairs-of (c .elements); listed = 0; letters = 0 })
+
+abbrev pub ahead-counts : ℕ → Hir → ℕ → List InstructionV → List InstructionV → Counts
+ahead-counts d h type members todo = plus (outside-components type (open-counts todo members)) (tally (λ g. function-counts (function-at h g)) (gathered (on-walk d h) (inner todo)))
 
 -- The allowances, table by table.
 

@@ -4,7 +4,7 @@ ghost use mathlib.Core.Path.{_≡_};
 ghost use Prim.Native.Nat.{_^_, _<_, _≤_};
 ghost use Rattle.laws.specs.Allowances.{pairs-of, listed-of, identifiers-allowance, instructions-allowance, numbers-allowance, places-allowance, blocks-allowance, functions-allowance, text-allowance, identifiers-allowed};
 ghost use Rattle.laws.specs.Sufficing.{Identifiers-suffice, Instructions-suffice, Numbers-suffice, Places-suffice, Blocks-suffice, Functions-suffice};
-ghost use Rattle.laws.specs.Sharing.{blocks-left, Every-block-within-its-share};
+ghost use Rattle.laws.specs.Sharing.{blocks-left, Every-step-within-its-share};
 ghost use Rattle.laws.specs.Ceilings.{Text-suffices};
 ghost use Rattle.laws.specs.Worked.{tile-counts, Worked-allowances};
 
@@ -77,11 +77,11 @@ pub fn text_allowance(letters: u64, attributes: u64, children: u64, pairs: u64) 
 }
 
 // The blocks of a function that are still to be walked. With what they and the functions reached from them are allowed, what is used
-// does not rise from block to block.
+// does not rise from block to block, nor from row to row.
 pub fn blocks_left(blocks: u32, walked: u32) -> u32
     requires { ⌜ walked ≤ blocks ⌝ }
     ensures left { λ r. ⌜ r ≡ blocks-left blocks walked ⌝ }
-    ensures shares { λ _. ⌜ Every-block-within-its-share ⌝ }
+    ensures shares { λ _. ⌜ Every-step-within-its-share ⌝ }
 {
     blocks - walked
 }
