@@ -1,15 +1,15 @@
 -- A block takes no more than its share, and leaves the rest as acceptable as it was.
-use Prim.Native.Nat.{ℕ, suc, _+_, _*_, _<_, _≤_}
+use Prim.Native.Nat.{ℕ, suc, _+_, _<_, _≤_}
 use native.Mathlib.Omega.{arith}
 use mathlib.Core.Path.{_≡_, refl, sym, ap, _∙_, subst}
 use mathlib.Core.Logic.{inl, inr}
-use mathlib.Core.Bool.{true, _||_}
+use mathlib.Core.Bool.{true}
 use mathlib.Core.List.{List, [], _∷_, _++_}
 use lib.ListN.{length, drop}
 use lib.Dec.{eqb}
 use Rattle.std.proofs.shelf.Tests.{or-cases, or-right, eqb-true}
-use Rattle.rules.specs.Lists.{gathered, backwards, within, Distinct, Lists}
-use Rattle.rules.specs.Views.{InstructionV, Hir, rows-at, function-at}
+use Rattle.rules.specs.Lists.{gathered, backwards, within, Distinct}
+use Rattle.rules.specs.Views.{InstructionV, Hir, is-function, rows-at, function-at}
 use Rattle.rules.specs.Emit.{Report}
 use Rattle.rules.specs.Eliminations.{Meaning, Lawful}
 use Rattle.rules.specs.Outline.{Walk, start-block, depth}
@@ -17,11 +17,12 @@ use Rattle.rules.specs.Drawn.{inner, inner-of, on-walk, Accepts}
 use Rattle.rules.proofs.Blocks.{later-split}
 use Rattle.rules.proofs.Membership.{In, in-head, in-left, distinct-left, gathered-++, lists-none}
 use Rattle.rules.proofs.Positions.{backwards-twice}
+use Rattle.rules.proofs.Steps.{pick-true}
 use Rattle.rules.proofs.Sublists.{append-none}
 use Rattle.laws.specs.Allowances.{Counts, numbers-allowed, places-allowed}
 use Rattle.laws.specs.Taking.{Price, numbers, places}
 use Rattle.laws.specs.Sufficing.{Walk-formed}
-use Rattle.laws.specs.Sharing.{Rows-accepted, reached-from, Still-accepted, Accepted-at-first, after-block, Block-shared, Rows-still-accepted, Row-shared, Last-shared, Every-step-within-its-share}
+use Rattle.laws.specs.Sharing.{Rows-accepted, reached-from, reached-by, Still-accepted, Accepted-at-first, after-block, Block-shared, Rows-still-accepted, Row-shared, Last-shared, Every-step-within-its-share}
 use Rattle.laws.proofs.Staying.{steps-go-onward}
 use Rattle.laws.proofs.Walks.{free, Kept, Rest, Block-kept, block-kept, Rows-fine, row-kept, last-kept}
 use Rattle.laws.proofs.Sufficing.{Ok, Load-ok, Shown, shown-kept, numbers-kept, places-kept, ok-walk}
@@ -107,7 +108,7 @@ module _ (m : Meaning) (lawful : Lawful m) (d type : ℕ) (w : Walk) (todo : Lis
   abbrev used₀ : ℕ
   used₀ = length (w .hir .functions)
 
-  pub fine : (p : Price) (R : Hir → Hir → Report → ℕ → Counts → Type 0) (kept : Kept m used₀ p Ok Load-ok R) → Rows-fine m lawful used₀ p Ok Load-ok R kept d type w todo
+  fine : (p : Price) (R : Hir → Hir → Report → ℕ → Counts → Type 0) (kept : Kept m used₀ p Ok Load-ok R) → Rows-fine m lawful used₀ p Ok Load-ok R kept d type w todo
   fine p R kept = record { big = omega arith; distinct = a .once; each = λ g q. (a .used g q, a .inner g q); own = a .own; jsx = a .elements; loads = a .loads }
 
 row-shared : (m : Meaning) → Lawful m → (d type : ℕ) (w : Walk) (i : InstructionV) (todo : List InstructionV) → Rows-still-accepted d w (i ∷ todo) → Row-shared m d type w i todo
@@ -126,6 +127,20 @@ row-shared m lawful d type w i todo a =
       share = record { identifiers = omega arith; instructions = omega arith; numbers = omega arith; places = omega arith; blocks = omega arith; functions = omega arith };
       next = record { once = f .distinct; used = λ g q. (let x = f .each g q .0 in omega arith); inner = λ g q. f .each g q .1; own = f .own; elements = f .jsx; loads = f .loads } }
 
+enters : (d : ℕ) (w : Walk) (i : InstructionV) (todo : List InstructionV) → Rows-still-accepted (suc d) w (i ∷ todo) → is-function i ≡ true → Still-accepted d (w .hir) (i .function) 0 []
+enters d w i todo a h =
+    let x = i .function in
+    let mine : List ℕ = on-walk (suc d) (w .hir) x in
+    let rest : List ℕ = reached-by (suc d) (w .hir) todo in
+    let e : reached-by (suc d) (w .hir) (i ∷ todo) ≡ mine ++ rest = ap (gathered (on-walk (suc d) (w .hir))) (pick-true (is-function i) (x ∷ inner todo) (inner todo) h) in
+    let in-all : (g : ℕ) → In g mine → In g (reached-by (suc d) (w .hir) (i ∷ todo)) = λ g q. subst (λ (l : List ℕ). In g l) (sym e) (in-left g mine rest q) in
+    record {
+      once = distinct-left mine rest (subst Distinct e (a .once));
+      used = λ g q. a .used g (in-all g q);
+      own = λ j l. a .inner x (in-all x (in-head x (reached-from d (w .hir) x 0))) j;
+      inner = λ g q. a .inner g (in-all g (or-right (eqb g x) (within g (reached-from d (w .hir) x 0)) q));
+      loads = λ j l. lists-none l }
+
 last-shared : (m : Meaning) → Lawful m → (d type : ℕ) (w : Walk) → Rows-still-accepted d w [] → Last-shared d type w
 last-shared m lawful d type w a =
     let n₀ = length (w .hir .functions) in
@@ -139,4 +154,4 @@ last-shared m lawful d type w a =
     record { identifiers = omega arith; instructions = omega arith; numbers = omega arith; places = omega arith; blocks = omega arith; functions = omega arith }
 
 pub every-step-within-its-share : Every-step-within-its-share
-every-step-within-its-share = record { begins = accepted-at-first; block = block-shared; rows = rows-begin; row = row-shared; last = last-shared }
+every-step-within-its-share = record { begins = accepted-at-first; block = block-shared; rows = rows-begin; row = row-shared; enters = enters; last = last-shared }

@@ -17,7 +17,7 @@ use Rattle.rules.specs.Props.{OutlinedJsxAttribute, Gathering, write-changed, n
 use Rattle.rules.specs.Emit.{take-tag, prepare, Outcome, process-jsx-group}
 use Rattle.rules.proofs.Steps.{pick-true, pick-false}
 use Rattle.laws.specs.Staying.{identifier-at, Onward}
-use Rattle.laws.specs.Ceilings.{name-counter-ceiling, Name-counter-below}
+use Rattle.laws.specs.Ceilings.{Name-counter-below}
 use Rattle.laws.specs.Allowances.{Counts, letters-of, rows-counts}
 use Rattle.laws.proofs.Ways.{gather-ways, promoting, promote-ways, close-ways, emit-ways}
 use Rattle.laws.proofs.Groups.{bind-on}

@@ -6,7 +6,7 @@ use mathlib.Core.Bool.{true}
 use mathlib.Core.List.{List, [], _∷_, _++_}
 use lib.ListN.{length, drop}
 use Rattle.rules.specs.Lists.{gathered, backwards, within, Distinct, Lists}
-use Rattle.rules.specs.Views.{InstructionV, Hir, is-element, writes, block-rows, rows-at, function-at}
+use Rattle.rules.specs.Views.{InstructionV, Hir, is-element, is-function, writes, block-rows, rows-at, function-at}
 use Rattle.rules.specs.Emit.{Report}
 use Rattle.rules.specs.Eliminations.{Meaning, Lawful}
 use Rattle.rules.specs.Outline.{Walk, process-and-outline-jsx, passed, start-block, walk-block, outline-jsx-impl, depth}
@@ -90,10 +90,11 @@ abbrev pub blocks-left : ℕ → ℕ → ℕ
 blocks-left blocks walked = blocks - walked
 
 -- The loops: an accepted call may begin; each block is within its share; a block's rows may begin; each row is within its share, and
--- the closing group is.
+-- the closing group is; an inner function may begin when its row is passed.
 pub record Every-step-within-its-share : Type 0 where
   pub begins : (h : Hir) (f : ℕ) → Accepts h f → Walk-formed depth h f → Accepted-at-first h f
   pub block : (m : Meaning) → Lawful m → (d : ℕ) (h : Hir) (f k : ℕ) (globals : List InstructionV) (r : Report) → Still-accepted d h f k globals → k < length (function-at h f .blocks) → Block-shared m d h f k globals r
   pub rows : (d : ℕ) (h : Hir) (f k : ℕ) (globals : List InstructionV) (r : Report) → Still-accepted d h f k globals → k < length (function-at h f .blocks) → Rows-still-accepted d (start-block h globals r) (backwards (rows-at h f k))
   pub row : (m : Meaning) → Lawful m → (d type : ℕ) (w : Walk) (i : InstructionV) (todo : List InstructionV) → Rows-still-accepted d w (i ∷ todo) → Row-shared m d type w i todo
+  pub enters : (d : ℕ) (w : Walk) (i : InstructionV) (todo : List InstructionV) → Rows-still-accepted (suc d) w (i ∷ todo) → is-function i ≡ true → Still-accepted d (w .hir) (i .function) 0 []
   pub last : (m : Meaning) → Lawful m → (d type : ℕ) (w : Walk) → Rows-still-accepted d w [] → Last-shared d type w
