@@ -1,14 +1,14 @@
 -- Counts grow with lists, and sum over them.
 use Prim.Native.Nat.{ℕ, _+_, _/_, _≤_}
 use native.Mathlib.Omega.{arith}
-use mathlib.Core.Path.{_≡_, refl, ap, subst}
+use mathlib.Core.Path.{_≡_, subst}
 use mathlib.Core.Logic.{inl, inr}
 use mathlib.Core.Bool.{true, false}
 use mathlib.Core.List.{List, [], _∷_, _++_}
 use lib.ListN.{length}
 use lib.Dec.{eqb, leb}
 use Rattle.std.proofs.shelf.Tests.{cases-bool, leb-true, leb-false}
-use Rattle.rules.specs.Lists.{Sublist, ends, keeps, skips, backwards, Lists, here, there}
+use Rattle.rules.specs.Lists.{Sublist, ends, keeps, skips, backwards}
 use Rattle.rules.specs.Views.{InstructionV, is-element}
 use Rattle.rules.proofs.Steps.{pick-true, pick-false}
 use Rattle.laws.specs.Allowances.{Counts, no-counts, plus, element-counts, row-counts, rows-counts, halved, block-counts, outside-components, tally}
@@ -45,9 +45,6 @@ new-list n = record { attributes = 0; children = 0; elements = 0; pairs = 0; lis
 
 pub row-yes : (i : InstructionV) → is-element i ≡ true → row-counts i ≡ element-counts i
 row-yes i h = pick-true (is-element i) (element-counts i) no-counts h
-
-pub row-no : (i : InstructionV) → is-element i ≡ false → row-counts i ≡ no-counts
-row-no i h = pick-false (is-element i) (element-counts i) no-counts h
 
 rows-++ : (is js : List InstructionV) → Le (rows-counts (is ++ js)) (plus (rows-counts is) (rows-counts js))
 rows-++ [] js = omega arith
@@ -101,14 +98,6 @@ outside-le type a b q = elim (eqb type 0) as (λ t. Le (elim t as (λ _. Counts)
 
 pub outside-two : (type : ℕ) (a b c : Counts) → Le (plus a b) c → Le (plus (outside-components type a) (outside-components type b)) (outside-components type c)
 outside-two type a b c q = elim (eqb type 0) as (λ t. Le (plus (elim t as (λ _. Counts) [ true ↦ no-counts | false ↦ a ]) (elim t as (λ _. Counts) [ true ↦ no-counts | false ↦ b ])) (elim t as (λ _. Counts) [ true ↦ no-counts | false ↦ c ])) [ true ↦ le-refl no-counts | false ↦ q ]
-
--- all elements
-pub all-elements : (ms : List InstructionV) → ((i : InstructionV) → Lists ms i → is-element i ≡ true) → rows-counts ms .elements ≡ length ms
-all-elements [] h = refl
-all-elements (i ∷ ms) h =
-    let e : row-counts i .elements ≡ 1 = ap (λ (c : Counts). c .elements) (row-yes i (h i here)) in
-    let q = all-elements ms (λ j l. h j (there l)) in
-    omega arith
 
 pub tally-++ : (c : ℕ → Counts) (xs ys : List ℕ) → Le (plus (tally c xs) (tally c ys)) (tally c (xs ++ ys)) × Le (tally c (xs ++ ys)) (plus (tally c xs) (tally c ys))
 tally-++ c [] ys = (omega arith, omega arith)

@@ -165,16 +165,6 @@ close-keeps type gs ms h g l =
 pub outlines-go-onward : Every-outline-goes-onward
 outlines-go-onward = walk-onward depth
 
--- at most one try more than there are identifiers and rows
-free-below : (k : ℕ) (names : Bytes → Bool) (n : ℕ) → free-tag k names n ≤ n + k
-free-below zero names n = omega arith
-free-below (suc k) names n = elim (cases-bool (names (tag-name n))) [
-    inl e ↦ (let q = free-below k names (suc n) in let p = pick-true (names (tag-name n)) (free-tag k names (suc n)) n e in omega arith)
-  | inr e ↦ (let p = pick-false (names (tag-name n)) (free-tag k names (suc n)) n e in omega arith) ]
-
-pub tag-below : (h : Hir) → next-tag h ≤ h .mark + length (h .identifiers) + h .used-rows + 2
-tag-below h = let q = free-below (suc (length (h .identifiers) + h .used-rows)) (known h) (suc (h .mark)) in omega arith
-
 abbrev Step-onward : Hir → Hir → Report → Type 0
 Step-onward a b r = Onward a b
 
