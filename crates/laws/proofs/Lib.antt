@@ -1,0 +1,16 @@
+pub mod Ways
+pub mod Onward
+pub mod Groups
+pub mod Staying
+pub mod Counting
+pub mod Walks
+pub mod Reports
+pub mod Outside
+pub mod Costs
+pub mod Sufficing
+pub mod Naming
+pub mod Marks
+pub mod Texts
+pub mod Ceilings
+pub mod Worked
+pub mod Sharing

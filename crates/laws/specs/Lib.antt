@@ -1,0 +1,9 @@
+pub mod Naming
+pub mod Staying
+pub mod Reports
+pub mod Allowances
+pub mod Taking
+pub mod Sufficing
+pub mod Sharing
+pub mod Ceilings
+pub mod Worked
