@@ -20,6 +20,10 @@ call-expression-kind = 12
 abbrev pub jsx-kind : ℕ
 jsx-kind = 16
 
+-- ObjectMethod, which has an inner function but is not walked
+abbrev pub object-method-kind : ℕ
+object-method-kind = 18
+
 -- LoadGlobal
 abbrev pub load-global-kind : ℕ
 load-global-kind = 29
