@@ -42,8 +42,9 @@ block-within (b ∷ bs) (suc j) = let q = block-within bs j in omega arith
 tally-within : (c : ℕ → Counts) (g : ℕ) (xs : List ℕ) → In g xs → Le (c g) (tally c xs)
 tally-within c g [] h = absurd (both-ways false refl h)
 tally-within c g (x ∷ xs) h = elim (or-cases (eqb g x) (within g xs) h) [
-    inl e ↦ subst (λ y. Le (c y) (tally c (x ∷ xs))) (sym (eqb-true g x e)) (omega arith)
-  | inr k ↦ (let q = tally-within c g xs k in omega arith) ]
+  | inl e ↦ subst (λ y. Le (c y) (tally c (x ∷ xs))) (sym (eqb-true g x e)) (omega arith)
+  | inr k ↦ (let q = tally-within c g xs k in omega arith)
+]
 
 -- Text.
 
@@ -56,27 +57,30 @@ Ok type rows = eqb type 0 ≡ false → rows-counts rows .attributes + rows-coun
 
 written-kept : (m : Meaning) (n₀ : ℕ) → Kept m n₀ free Ok (λ type i. Unit) (λ a b r s c. Written a b c)
 written-kept m n₀ = record {
-    ok-sub = λ s o t. (let q = rows-sub s in let l = o t in omega arith);
-    ok-load = λ type rows i o l g. tt;
-    same = λ h. record { onward = onward-refl h; text = λ i k d. omega arith };
-    then = λ {a} {b} {c} p q. record {
-        onward = onward-then a b c (p .onward) (q .onward);
-        text = λ i k d.
-          let x = q .onward .identifiers in let y = q .onward .mark in
-          let t = p .text (omega arith) (omega arith) d in
-          let u = q .text i k (onward-declared a b (p .onward) (omega arith) d) in
-          omega arith };
-    more = λ u v l p. record { onward = p .onward; text = λ i k d. (let t = p .text i k d in let l₁ = l .attributes in let l₂ = l .children in let l₃ = l .pairs in let l₄ = l .letters in omega arith) };
-    idle = λ h. refl;
-    closes = λ type gs a b ms h t l j o. record { onward = close-onward type gs (a ∷ b ∷ ms) h; text = λ i k d. (let q = group-text type gs a b ms h j d (o t) i k in omega arith) };
-    relists = λ h f k w ws low big type yes o two many.
+  ok-sub = λ s o t. (let q = rows-sub s in let l = o t in omega arith);
+  ok-load = λ type rows i o l g. tt;
+  same = λ h. record { onward = onward-refl h; text = λ i k d. omega arith };
+  then = λ {a} {b} {c} p q. record {
+    onward = onward-then a b c (p .onward) (q .onward);
+    text = λ i k d.
+        let x = q .onward .identifiers in let y = q .onward .mark in
+        let t = p .text (omega arith) (omega arith) d in
+        let u = q .text i k (onward-declared a b (p .onward) (omega arith) d) in
+        omega arith;
+  };
+  more = λ u v l p. record { onward = p .onward; text = λ i k d. (let t = p .text i k d in let l₁ = l .attributes in let l₂ = l .children in let l₃ = l .pairs in let l₄ = l .letters in omega arith) };
+  idle = λ h. refl;
+  closes = λ type gs a b ms h t l j o. record { onward = close-onward type gs (a ∷ b ∷ ms) h; text = λ i k d. (let q = group-text type gs a b ms h j d (o t) i k in omega arith) };
+  relists = λ h f k w ws low big type yes o two many.
       let rows = rewritten (w ∷ ws) (rows-at h f k) in
       let h₁ = with-list h f k rows in
       let Fn₁ : FunctionV → FunctionV = λ g. with-blocks g (changed (λ b. with-rows b rows) k (g .blocks)) in
       let Fn₂ : FunctionV → FunctionV = λ g. with-blocks g (listing (g .blocks) (m h₁ f)) in
       record {
         onward = onward-then h h₁ _ (relists-onward h f Fn₁ (λ g. (refl, same-changed rows k (g .blocks)))) (relists-onward h₁ f Fn₂ (λ g. (refl, same-listing (g .blocks) (m h₁ f))));
-        text = λ i k d. omega arith } }
+        text = λ i k d. omega arith;
+      };
+}
 
 -- Tags.
 
@@ -86,9 +90,15 @@ close-tags type gs a b ms h = close-ways (λ o. o .report .functions + o .report
 
 tags-kept : (m : Meaning) (n₀ : ℕ) → Kept m n₀ free (λ type rows. Unit) (λ type i. Unit) (λ a b r s c. r .functions + r .abandoned ≤ c .pairs)
 tags-kept m n₀ = record {
-    ok-sub = λ s o. tt; ok-load = λ type rows i o l g. tt; same = λ h. omega arith; then = λ p q. omega arith; more = λ u v l p. (let x = l .pairs in omega arith); idle = λ h. refl;
-    closes = λ type gs a b ms h t l j o. (let q = close-tags type gs a b ms h in omega arith);
-    relists = λ h f k w ws low big type yes o two many. omega arith }
+  ok-sub = λ s o. tt;
+  ok-load = λ type rows i o l g. tt;
+  same = λ h. omega arith;
+  then = λ p q. omega arith;
+  more = λ u v l p. (let x = l .pairs in omega arith);
+  idle = λ h. refl;
+  closes = λ type gs a b ms h t l j o. (let q = close-tags type gs a b ms h in omega arith);
+  relists = λ h f k w ws low big type yes o two many. omega arith;
+}
 
 tags-few : Of-every-walk (λ m h f. outline-jsx m h f .report .functions + outline-jsx m h f .report .abandoned ≤ walk-counts depth h f .pairs)
 tags-few m lawful h f a w =
@@ -121,14 +131,18 @@ text-suffices m lawful h f a w l =
     let si = identifiers-suffice m lawful h f a w in
     let li = l .identifiers in
     let declared : Declared h = λ x. elim (cases-lt x (length (h .identifiers))) [
-        inl t ↦ l .declarations x t
-      | inr t ↦ (let e = ap (λ (i : IdentifierV). i .declaration) (getD-past (h .identifiers) x no-identifier t) in omega arith) ] in
-    let each : (g : ℕ) → In g (on-walk depth h f) → (g < n₀) × ((j : ℕ) → Ok (function-at h g .type) (block-rows (function-at h g .blocks) j)) = λ g q. (a .used g q, λ j t.
-        let x = block-within (function-at h g .blocks) j in
-        let y = tally-within (λ k. function-counts (function-at h k)) g (on-walk depth h f) q in
-        let z : function-counts (function-at h g) ≡ blocks-counts (function-at h g .blocks) = pick-false (eqb (function-at h g .type) 0) no-counts (blocks-counts (function-at h g .blocks)) t in
-        let za = ap (λ (c : Counts). c .attributes) z in let zc = ap (λ (c : Counts). c .children) z in
-        let xa = x .attributes in let xc = x .children in let ya = y .attributes in let yc = y .children in
-        omega arith) in
+      | inl t ↦ l .declarations x t
+      | inr t ↦ (let e = ap (λ (i : IdentifierV). i .declaration) (getD-past (h .identifiers) x no-identifier t) in omega arith)
+    ] in
+    let each : (g : ℕ) → In g (on-walk depth h f) → (g < n₀) × ((j : ℕ) → Ok (function-at h g .type) (block-rows (function-at h g .blocks) j)) = λ g q. (
+      a .used g q,
+      λ j t.
+          let x = block-within (function-at h g .blocks) j in
+          let y = tally-within (λ k. function-counts (function-at h k)) g (on-walk depth h f) q in
+          let z : function-counts (function-at h g) ≡ blocks-counts (function-at h g .blocks) = pick-false (eqb (function-at h g .type) 0) no-counts (blocks-counts (function-at h g .blocks)) t in
+          let za = ap (λ (c : Counts). c .attributes) z in let zc = ap (λ (c : Counts). c .children) z in
+          let xa = x .attributes in let xc = x .children in let ya = y .attributes in let yc = y .children in
+          omega arith,
+    ) in
     let big : 10 ^ 20 ≡ 100000000000000000000 = refl in
     walk-kept m lawful n₀ free Ok (λ type i. Unit) (λ a b r s c. Written a b c) (written-kept m n₀) depth h f (omega arith) (record { distinct = a .once; each = each }) .related .text (omega arith) (omega arith) declared

@@ -35,8 +35,9 @@ count-++ k [] qs = omega arith
 count-++ k (p ∷ ps) qs =
     let q = count-++ k ps qs in
     elim (role-is k p) as (λ b. length (elim b as (λ _. List PlaceV) [ true ↦ p ∷ select (role-is k) (ps ++ qs) | false ↦ select (role-is k) (ps ++ qs) ]) ≡ length (elim b as (λ _. List PlaceV) [ true ↦ p ∷ select (role-is k) ps | false ↦ select (role-is k) ps ]) + count k qs) [
-      true ↦ omega arith
-    | false ↦ omega arith ]
+      | true ↦ omega arith
+      | false ↦ omega arith
+    ]
 
 pub count-yes : (k : ℕ) (p : PlaceV) (ps : List PlaceV) → role-is k p ≡ true → count k (p ∷ ps) ≡ suc (count k ps)
 count-yes k p ps h = ap (λ (l : List PlaceV). length l) (pick-true (role-is k p) (p ∷ select (role-is k) ps) (select (role-is k) ps) h)
@@ -77,11 +78,11 @@ place-entries members g p ps =
     let m₂ = count-more 2 p ps in
     let m₄ = count-more 4 p ps in
     gather-ways (λ g′. length (g′ .entries) + count 2 ps + count 4 ps ≤ length (g .entries) + count 2 (p ∷ ps) + count 4 (p ∷ ps)) members g p
-      (λ _. omega arith)
-      (λ _ r. let y = count-yes 2 p ps r in simp length-append (omega arith))
-      (λ _ _ _. omega arith)
-      (λ _ _ _ c. let y = count-yes 4 p ps (and-parts (role-is 4 p) (not (within (p .identifier) members)) c .0) in simp length-append (omega arith))
-      (λ _ _ _ _. omega arith)
+    (λ _. omega arith)
+    (λ _ r. let y = count-yes 2 p ps r in simp length-append (omega arith))
+    (λ _ _ _. omega arith)
+    (λ _ _ _ c. let y = count-yes 4 p ps (and-parts (role-is 4 p) (not (within (p .identifier) members)) c .0) in simp length-append (omega arith))
+    (λ _ _ _ _. omega arith)
 
 gather-entries : (members : List ℕ) (g : Gathering) (ps : List PlaceV) → length (gather members g ps .entries) ≤ length (g .entries) + count 2 ps + count 4 ps
 gather-entries members g [] = omega arith
@@ -144,11 +145,11 @@ bind-bounded m [] = record { identifiers = omega arith; table = omega arith }
 bind-bounded m (e ∷ es) = bind-ways (λ m′. Bounded m m′ (suc (length es))) m e es
     (λ _. let q = bind-bounded m es in let a = q .identifiers in let b = q .table in record { identifiers = omega arith; table = omega arith })
     (λ _.
-      let q = bind-bounded (bound-next m e) es in
-      let a = q .identifiers in let b = q .table in
-      let l = length-append (m .hir .identifiers) (record { declaration = length (m .hir .identifiers); name = named (e .new-name) } ∷ []) in
-      let k = put-length (record { old = e .place .identifier; key = e .new-name; fresh = length (m .hir .identifiers) }) (m .table) in
-      record { identifiers = omega arith; table = omega arith })
+    let q = bind-bounded (bound-next m e) es in
+    let a = q .identifiers in let b = q .table in
+    let l = length-append (m .hir .identifiers) (record { declaration = length (m .hir .identifiers); name = named (e .new-name) } ∷ []) in
+    let k = put-length (record { old = e .place .identifier; key = e .new-name; fresh = length (m .hir .identifiers) }) (m .table) in
+    record { identifiers = omega arith; table = omega arith })
 
 pub record Prepared-bounded (h : Hir) (t : Prepared) (n : ℕ) : Type 0 where
   pub identifiers : length (t .hir .identifiers) ≤ length (h .identifiers) + n + 3
@@ -203,8 +204,9 @@ updated-few ids t (p ∷ ps) =
     let q = updated-few ids t ps in
     let rest = updated-places ids t ps in
     elim (role-is 2 p) as (λ b. length (elim b as (λ _. List PlaceV) [ true ↦ elim (is-key (p .name)) [ true ↦ rest | false ↦ named-place 2 (p .name) (latest t (p .identifier)) ∷ rest ] | false ↦ elim (outer-child ids p) [ true ↦ place-of 4 (latest t (p .identifier)) ∷ rest | false ↦ p ∷ rest ] ]) ≤ suc (length ps)) [
-      true ↦ elim (is-key (p .name)) as (λ b. length (elim b as (λ _. List PlaceV) [ true ↦ rest | false ↦ named-place 2 (p .name) (latest t (p .identifier)) ∷ rest ]) ≤ suc (length ps)) [ true ↦ omega arith | false ↦ omega arith ]
-    | false ↦ elim (outer-child ids p) as (λ b. length (elim b as (λ _. List PlaceV) [ true ↦ place-of 4 (latest t (p .identifier)) ∷ rest | false ↦ p ∷ rest ]) ≤ suc (length ps)) [ true ↦ omega arith | false ↦ omega arith ] ]
+      | true ↦ elim (is-key (p .name)) as (λ b. length (elim b as (λ _. List PlaceV) [ true ↦ rest | false ↦ named-place 2 (p .name) (latest t (p .identifier)) ∷ rest ]) ≤ suc (length ps)) [ true ↦ omega arith | false ↦ omega arith ]
+      | false ↦ elim (outer-child ids p) as (λ b. length (elim b as (λ _. List PlaceV) [ true ↦ place-of 4 (latest t (p .identifier)) ∷ rest | false ↦ p ∷ rest ]) ≤ suc (length ps)) [ true ↦ omega arith | false ↦ omega arith ]
+    ]
 
 updated-places-few : (ids : List ℕ) (t : List Bound) (ms : List InstructionV) → places-of (map (updated ids t) ms) ≤ places-of ms
 updated-places-few ids t [] = omega arith
@@ -339,7 +341,8 @@ module _ (type : ℕ) (gs : List InstructionV) (a b : InstructionV) (ms : List I
         blocks = omega arith;
         functions = omega arith;
         numbers = omega arith;
-        places = at-places (appended-by h (outcome t (g .entries) a (b ∷ ms) (Some ls))) at }
+        places = at-places (appended-by h (outcome t (g .entries) a (b ∷ ms) (Some ls))) at;
+      }
 
   pub group-cost : Group-cost h (process-jsx-group type gs all h) c
   group-cost = close-ways (λ o. Group-cost h o c) type gs a b ms h

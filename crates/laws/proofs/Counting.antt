@@ -70,19 +70,21 @@ rows-sub (skips {y = i} {xs = is} {ys = js} s) = let q = rows-sub s in omega ari
 
 halved-le : (e f n k : ℕ) → e ≤ f → n ≤ k → Le (halved e n) (halved f k)
 halved-le e f n k p q = elim (cases-bool (leb 2 e)) [
-    inl a ↦
+  | inl a ↦
       let x = pick-true (leb 2 e) (n + e / 2) 0 a in
       let l : 2 ≤ e = leb-true 2 e a in
       elim (cases-bool (leb 2 f)) [
-        inl b ↦ (let y = pick-true (leb 2 f) (k + f / 2) 0 b in omega arith)
-      | inr b ↦ (let z = leb-false 2 f b in absurd (omega arith)) ]
-  | inr a ↦ (let x = pick-false (leb 2 e) (n + e / 2) 0 a in omega arith) ]
+        | inl b ↦ (let y = pick-true (leb 2 f) (k + f / 2) 0 b in omega arith)
+        | inr b ↦ (let z = leb-false 2 f b in absurd (omega arith))
+      ]
+  | inr a ↦ (let x = pick-false (leb 2 e) (n + e / 2) 0 a in omega arith)
+]
 
 pub block-sub : (is js : List InstructionV) → Sublist is js → Le (block-counts is) (block-counts js)
 block-sub is js s =
     let q = rows-sub s in
     le-plus (rows-counts is) (rows-counts js) (halved (rows-counts is .elements) (length is)) (halved (rows-counts js .elements) (length js)) q
-      (halved-le (rows-counts is .elements) (rows-counts js .elements) (length is) (length js) (q .elements) (sub-length is js s))
+    (halved-le (rows-counts is .elements) (rows-counts js .elements) (length is) (length js) (q .elements) (sub-length is js s))
 
 -- a block's share: its elements, its groups and, with two elements, its new list
 pub block-share : (rows : List InstructionV) → Le (plus (rows-counts rows) (pair (rows-counts rows .elements / 2))) (block-counts rows)
@@ -90,8 +92,9 @@ block-share rows = omega arith
 
 pub block-listed : (rows : List InstructionV) → 2 ≤ rows-counts rows .elements → Le (plus (plus (rows-counts rows) (pair (rows-counts rows .elements / 2))) (new-list (length rows + rows-counts rows .elements / 2))) (block-counts rows)
 block-listed rows h = elim (cases-bool (leb 2 (rows-counts rows .elements))) [
-    inl a ↦ (let x = pick-true (leb 2 (rows-counts rows .elements)) (length rows + rows-counts rows .elements / 2) 0 a in omega arith)
-  | inr a ↦ (let x = leb-false 2 (rows-counts rows .elements) a in absurd (omega arith)) ]
+  | inl a ↦ (let x = pick-true (leb 2 (rows-counts rows .elements)) (length rows + rows-counts rows .elements / 2) 0 a in omega arith)
+  | inr a ↦ (let x = leb-false 2 (rows-counts rows .elements) a in absurd (omega arith))
+]
 
 pub outside-le : (type : ℕ) (a b : Counts) → Le a b → Le (outside-components type a) (outside-components type b)
 outside-le type a b q = elim (eqb type 0) as (λ t. Le (elim t as (λ _. Counts) [ true ↦ no-counts | false ↦ a ]) (elim t as (λ _. Counts) [ true ↦ no-counts | false ↦ b ])) [ true ↦ le-refl no-counts | false ↦ q ]

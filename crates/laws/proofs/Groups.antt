@@ -18,7 +18,6 @@ module _ (R : Hir → Hir → Type 0)
     (then : (a b c : Hir) → R a b → R b c → R a c)
     (writes : (h : Hir) (made : Bytes) → R h (write h made))
     (promotes : (h : Hir) (x : ℕ) → R h (promote h x)) where
-
   changed-on : (h : Hir) (old new : Bytes) → R h (write-changed h old new)
   changed-on h old new = elim (same-bytes old new) as (λ t. R h (elim t [ true ↦ h | false ↦ write h new ])) [ true ↦ same h | false ↦ writes h new ]
 
@@ -40,7 +39,6 @@ module _ (R : Hir → Hir → Type 0)
 module _ (R : Hir → Hir → Type 0)
     (then : (a b c : Hir) → R a b → R b c → R a c)
     (freshens : (h : Hir) (n : NameV) → R h (fresh h n)) where
-
   pub bind-on : (h₀ : Hir) (m : Mapping) (es : List OutlinedJsxAttribute) → R h₀ (m .hir) → R h₀ (bind-entries m es .hir)
   bind-on h₀ m [] r = r
   bind-on h₀ m (e ∷ es) r = bind-ways (λ m′. R h₀ (m′ .hir)) m e es (λ _. bind-on h₀ m es r) (λ _. bind-on h₀ (bound-next m e) es (then h₀ (m .hir) (bound-next m e .hir) r (freshens (m .hir) (named (e .new-name)))))
@@ -50,7 +48,6 @@ module _ (R : Hir → Hir → Type 0)
     (then : (a b c : Hir) → R a b → R b c → R a c)
     (writes : (h : Hir) (made : Bytes) → R h (write h made))
     (freshens : (h : Hir) (n : NameV) → R h (fresh h n)) where
-
   pub named-on : (h : Hir) (n : NameV) (made : Bytes) → R h (write (fresh h n) made)
   named-on h n made = then h (fresh h n) (write (fresh h n) made) (freshens h n) (writes (fresh h n) made)
 
@@ -63,10 +60,10 @@ module _ (R : Hir → Hir → Type 0)
       let param : ℕ = length (bound .hir .identifiers) in
       let h₃ : Hir = write (fresh (bound .hir) (promoted (temporary param))) (temporary param) in
       then h₀ h₃ (fresh h₃ absent)
-        (then h₀ (bound .hir) h₃
-          (bind-on R then freshens h₀ (record { hir = h₁; table = [] }) es (named-on h₀ (promoted (tag-temporary load)) (tag-temporary load)))
-          (named-on (bound .hir) (promoted (temporary param)) (temporary param)))
-        (freshens h₃ absent)
+      (then h₀ (bound .hir) h₃
+      (bind-on R then freshens h₀ (record { hir = h₁; table = [] }) es (named-on h₀ (promoted (tag-temporary load)) (tag-temporary load)))
+      (named-on (bound .hir) (promoted (temporary param)) (temporary param)))
+      (freshens h₃ absent)
 
 -- The whole group.
 module _ (R : Hir → Hir → Type 0)
@@ -77,7 +74,6 @@ module _ (R : Hir → Hir → Type 0)
     (tags : (h : Hir) → R h (take-tag h))
     (freshens : (h : Hir) (n : NameV) → R h (fresh h n))
     (appends : (h : Hir) (f : FunctionV) (tag : Bytes) → R h (outline-function h f tag)) where
-
   prepare-on : (h : Hir) (es : List OutlinedJsxAttribute) → R h (prepare h es .hir)
   prepare-on h es = then h (take-tag h) (prepare h es .hir) (tags h) (prepared-on R then writes freshens h es)
 

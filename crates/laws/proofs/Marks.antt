@@ -32,9 +32,10 @@ Knows a b = (n : Bytes) → known a n ≡ true → known b n ≡ true
 -- the names of one more identifier
 names-cons : (n : Bytes) (i : IdentifierV) (is js : List IdentifierV) → (borne n (names-of is) ≡ true → borne n (names-of js) ≡ true) → borne n (names-of (i ∷ is)) ≡ true → borne n (names-of (i ∷ js)) ≡ true
 names-cons n i is js f = elim (i .name) as (λ k. borne n (elim k as (λ _. List Bytes) [ absent ↦ names-of is | named m ↦ m ∷ names-of is | promoted m ↦ m ∷ names-of is ]) ≡ true → borne n (elim k as (λ _. List Bytes) [ absent ↦ names-of js | named m ↦ m ∷ names-of js | promoted m ↦ m ∷ names-of js ]) ≡ true) [
-    absent ↦ f
+  | absent ↦ f
   | named m ↦ λ h. elim (or-cases (same-bytes n m) (borne n (names-of is)) h) [ inl e ↦ or-left (same-bytes n m) (borne n (names-of js)) e | inr e ↦ or-right (same-bytes n m) (borne n (names-of js)) (f e) ]
-  | promoted m ↦ λ h. elim (or-cases (same-bytes n m) (borne n (names-of is)) h) [ inl e ↦ or-left (same-bytes n m) (borne n (names-of js)) e | inr e ↦ or-right (same-bytes n m) (borne n (names-of js)) (f e) ] ]
+  | promoted m ↦ λ h. elim (or-cases (same-bytes n m) (borne n (names-of is)) h) [ inl e ↦ or-left (same-bytes n m) (borne n (names-of js)) e | inr e ↦ or-right (same-bytes n m) (borne n (names-of js)) (f e) ]
+]
 
 names-promoted : (n : Bytes) (k : ℕ) (is : List IdentifierV) → getD is k no-identifier .name ≡ absent → borne n (names-of is) ≡ true → borne n (names-of (changed promoting k is)) ≡ true
 names-promoted n zero [] e h = h
@@ -50,8 +51,9 @@ names-more n (i ∷ is) js h = names-cons n i is (is ++ js) (names-more n is js)
 
 known-by : (a b : Hir) → ((n : Bytes) → borne n (names-of (a .identifiers)) ≡ true → borne n (names-of (b .identifiers)) ≡ true) → ((n : Bytes) → a .bears n ≡ true → b .bears n ≡ true) → Knows a b
 known-by a b f g n h = elim (or-cases (borne n (names-of (a .identifiers))) (a .bears n) h) [
-    inl e ↦ or-left (borne n (names-of (b .identifiers))) (b .bears n) (f n e)
-  | inr e ↦ or-right (borne n (names-of (b .identifiers))) (b .bears n) (g n e) ]
+  | inl e ↦ or-left (borne n (names-of (b .identifiers))) (b .bears n) (f n e)
+  | inr e ↦ or-right (borne n (names-of (b .identifiers))) (b .bears n) (g n e)
+]
 
 knows-promoted : (h : Hir) (x : ℕ) → Knows h (promote h x)
 knows-promoted h x = promote-ways (Knows h) h x (λ e. known-by h (write (with-identifiers h (changed promoting x (h .identifiers))) (temporary (getD (h .identifiers) x no-identifier .declaration))) (λ n. names-promoted n x (h .identifiers) e) (λ n q. q)) (λ n q. q)
@@ -91,8 +93,9 @@ up-lists : (k n j : ℕ) → Lists (count-up k n) j → (n ≤ j) × (j < n + k)
 unfolding count-up
 up-lists zero n j l = lists-none l
 up-lists (suc k) n j l = elim (lists-head l) [
-    inl e ↦ (omega arith, omega arith)
-  | inr m ↦ (let q = up-lists k (suc n) j m in let a = q .0 in let b = q .1 in (omega arith, omega arith)) ]
+  | inl e ↦ (omega arith, omega arith)
+  | inr m ↦ (let q = up-lists k (suc n) j m in let a = q .0 in let b = q .1 in (omega arith, omega arith))
+]
 
 rising-apart : (low : ℕ) (ns : List ℕ) (high m : ℕ) → m ≤ low → Rising low ns high → borne (tag-name m) (map tag-name ns) ≡ false
 rising-apart low [] high m l r = refl
@@ -133,7 +136,8 @@ marked-then a b c r s p q =
       skipped = p .skipped ++ q .skipped;
       rising = rising-++ (a .mark) (p .skipped) (b .mark) (q .skipped) (c .mark) (p .rising) (q .rising);
       borne = λ n m. elim (lists-split (p .skipped) m) [ inl u ↦ q .knows (tag-name n) (p .borne n u) | inr u ↦ q .borne n u ];
-      counted = omega arith }
+      counted = omega arith;
+    }
 
 -- a tag passes over names that are known
 marked-tag : (h g o : Hir) (r : Report) → Knows h o → Knows g o → g .mark ≡ h .mark → o .mark ≡ next-tag g → r .functions + r .abandoned ≡ 1 → Marked h o r
@@ -146,7 +150,8 @@ marked-tag h g o r k k′ e n one =
       skipped = count-up many (suc (g .mark));
       rising = subst (λ z. Rising z (count-up many (suc (g .mark))) (o .mark)) e (up-rising (g .mark) many (suc (g .mark)) (o .mark) (omega arith) (omega arith));
       borne = λ j m. (let q = up-lists many (suc (g .mark)) j m in let a = q .0 in let b = q .1 in k′ (tag-name j) (passed-tags g j a (omega arith)));
-      counted = omega arith }
+      counted = omega arith;
+    }
 
 module _ (gs : List InstructionV) (m n : InstructionV) (ms : List InstructionV) (h : Hir) where
   abbrev all : List InstructionV
@@ -168,9 +173,9 @@ module _ (gs : List InstructionV) (m n : InstructionV) (ms : List InstructionV) 
       let e = collect-quiet h all .mark in
       let p = prepare-quiet hir es .mark in
       emit-ways (λ o. Knows hir (o .hir) → Marked h (o .hir) (o .report)) gs m (n ∷ ms) hir es
-        (λ k. marked-tag h hir (prepare hir es .hir) _ (λ x q. k x (gathered-knows x q)) k e p (omega arith))
-        (λ ls _ _ k. marked-tag h hir _ _ (λ x q. k x (gathered-knows x q)) k e p (omega arith))
-        emitted-knows
+      (λ k. marked-tag h hir (prepare hir es .hir) _ (λ x q. k x (gathered-knows x q)) k e p (omega arith))
+      (λ ls _ _ k. marked-tag h hir _ _ (λ x q. k x (gathered-knows x q)) k e p (omega arith))
+      emitted-knows
 
 close-marked : (type : ℕ) (gs ms : List InstructionV) (h : Hir) → Marked h (process-jsx-group type gs ms h .hir) (process-jsx-group type gs ms h .report)
 close-marked type gs [] h = marked-same h h (λ n q. q) refl
@@ -191,8 +196,9 @@ mark-below-names d m h f few =
     let last = walk-few-borne d m h f few in
     let names : List Bytes = names-of (o .identifiers) ++ last .names in
     let inside : (n : Bytes) → known o n ≡ true → borne n names ≡ true = λ n k. borne-++ n (names-of (o .identifiers)) (last .names) ∙ (elim (or-cases (borne n (names-of (o .identifiers))) (o .bears n) k) [
-        inl e ↦ or-left (borne n (names-of (o .identifiers))) (borne n (last .names)) e
-      | inr e ↦ or-right (borne n (names-of (o .identifiers))) (borne n (last .names)) (last .all n e) ]) in
+      | inl e ↦ or-left (borne n (names-of (o .identifiers))) (borne n (last .names)) e
+      | inr e ↦ or-right (borne n (names-of (o .identifiers))) (borne n (last .names)) (last .all n e)
+    ]) in
     let p = pigeons (map tag-name (w .skipped)) names (tags-apart (h .mark) (w .skipped) (o .mark) (w .rising)) (all-borne (w .skipped) names (λ n l. inside (tag-name n) (w .borne n l))) in
     let a = map-length (w .skipped) in
     let b = length-append (names-of (o .identifiers)) (last .names) in

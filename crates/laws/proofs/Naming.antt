@@ -39,12 +39,19 @@ from-try (suc k) seen old c i n e =
     let q = from-try k seen old c (suc i) (suc n) (omega arith) in
     let next : From seen old c (suc i) k (renamed k seen old (old ++ numeral n) (suc n)) = subst (λ z. From seen old c (suc i) k (renamed k seen old (old ++ numeral z) (suc n))) (sym e) q in
     (elim (borne (tried old c i) seen) as (λ b. borne (tried old c i) seen ≡ b → From seen old c i (suc k) (elim b as (λ _. Made) [ true ↦ renamed k seen old (old ++ numeral n) (suc n) | false ↦ here ])) [
-      true ↦ λ s. (let l = next .later in let f = next .few in record {
-          tries = next .tries; name = next .name; counter = next .counter; later = omega arith; few = omega arith;
-          earlier = λ j a b. elim (cases-eq j i) [
-              inl z ↦ subst (λ y. borne (tried old c y) seen ≡ true) (sym z) s
-            | inr z ↦ next .earlier j (omega arith) b ] })
-    | false ↦ λ _. record { tries = i; name = refl; counter = e; later = omega arith; few = omega arith; earlier = λ j a b. absurd (omega arith) } ]) refl
+      | true ↦ λ s. (let l = next .later in let f = next .few in record {
+        tries = next .tries;
+        name = next .name;
+        counter = next .counter;
+        later = omega arith;
+        few = omega arith;
+        earlier = λ j a b. elim (cases-eq j i) [
+          | inl z ↦ subst (λ y. borne (tried old c y) seen ≡ true) (sym z) s
+          | inr z ↦ next .earlier j (omega arith) b
+        ];
+      })
+      | false ↦ λ _. record { tries = i; name = refl; counter = e; later = omega arith; few = omega arith; earlier = λ j a b. absurd (omega arith) }
+    ]) refl
 
 pub made-names-are-new : Made-names-are-new
 made-names-are-new seen old c =
@@ -57,10 +64,12 @@ made-names-are-new seen old c =
 passed-over : (k : ℕ) (names : Bytes → Bool) (n j : ℕ) → n ≤ j → j < free-tag k names n → names (tag-name j) ≡ true
 passed-over zero names n j a b = absurd (omega arith)
 passed-over (suc k) names n j a b = elim (cases-bool (names (tag-name n))) [
-    inl e ↦ elim (cases-eq j n) [
-        inl z ↦ subst (λ y. names (tag-name y) ≡ true) (sym z) e
-      | inr z ↦ (let p = pick-true (names (tag-name n)) (free-tag k names (suc n)) n e in passed-over k names (suc n) j (omega arith) (omega arith)) ]
-  | inr e ↦ (let p = pick-false (names (tag-name n)) (free-tag k names (suc n)) n e in absurd (omega arith)) ]
+  | inl e ↦ elim (cases-eq j n) [
+    | inl z ↦ subst (λ y. names (tag-name y) ≡ true) (sym z) e
+    | inr z ↦ (let p = pick-true (names (tag-name n)) (free-tag k names (suc n)) n e in passed-over k names (suc n) j (omega arith) (omega arith))
+  ]
+  | inr e ↦ (let p = pick-false (names (tag-name n)) (free-tag k names (suc n)) n e in absurd (omega arith))
+]
 
 pub passed-tags : (h : Hir) (j : ℕ) → h .mark < j → j < next-tag h → known h (tag-name j) ≡ true
 passed-tags h j a b = passed-over (suc (length (h .identifiers) + h .used-rows)) (known h) (suc (h .mark)) j a b
@@ -82,8 +91,10 @@ append-few h f tag few =
       names = few .names ++ (tag ∷ []);
       few = omega arith;
       all = λ n q. borne-++ n (few .names) (tag ∷ []) ∙ (elim (or-cases (h .bears n) (same-bytes n tag) q) [
-          inl e ↦ or-left (borne n (few .names)) (borne n (tag ∷ [])) (few .all n e)
-        | inr e ↦ or-right (borne n (few .names)) (borne n (tag ∷ [])) (or-left (same-bytes n tag) false e) ]) }
+        | inl e ↦ or-left (borne n (few .names)) (borne n (tag ∷ [])) (few .all n e)
+        | inr e ↦ or-right (borne n (few .names)) (borne n (tag ∷ [])) (or-left (same-bytes n tag) false e)
+      ]);
+    }
 
 same-few : (h : Hir) → Keeps-few h h
 same-few h few = few

@@ -61,7 +61,6 @@ module _ (R : Hir → Hir → Report → Type 0)
     (then : (a b c : Hir) (r s : Report) → R a b r → R b c s → R a c (add r s))
     (closes : (type : ℕ) (gs ms : List InstructionV) (h : Hir) → R h (process-jsx-group type gs ms h .hir) (process-jsx-group type gs ms h .report))
     (relists : (h : Hir) (f : ℕ) (Fn : FunctionV → FunctionV) → ((g : FunctionV) → Same-function g (Fn g)) → R h (with-functions h (changed Fn f (h .functions))) nothing) where
-
   then-none : (a b c : Hir) (r : Report) → R a b r → R b c nothing → R a c r
   then-none a b c r p q = subst (R a c) (add-none r) (then a b c r nothing p q)
 
@@ -83,13 +82,14 @@ module _ (R : Hir → Hir → Report → Type 0)
 
     finished-on : (m : Meaning) (f k : ℕ) (w : Walk) → At w → R h₀ (finished m f k w) (w .report)
     finished-on m f k w p = elim (w .rewrites) as (λ (l : List Rewrite). R h₀ (elim l [ [] ↦ w .hir | r ∷ rs ↦ eliminated m (with-list (w .hir) f k (rewritten (w .rewrites) (rows-at (w .hir) f k))) f ]) (w .report)) [
-        [] ↦ p
+      | [] ↦ p
       | r ∷ rs ↦
           let rows = rewritten (w .rewrites) (rows-at (w .hir) f k) in
           let h₁ = with-list (w .hir) f k rows in
           then-none h₀ h₁ (eliminated m h₁ f) (w .report)
-            (then-none h₀ (w .hir) h₁ (w .report) p (relists (w .hir) f (λ (g : FunctionV). with-blocks g (changed (λ b. with-rows b rows) k (g .blocks))) (λ g. (refl, same-changed rows k (g .blocks)))))
-            (relists h₁ f (λ (g : FunctionV). with-blocks g (listing (g .blocks) (m h₁ f))) (λ g. (refl, same-listing (g .blocks) (m h₁ f)))) ]
+          (then-none h₀ (w .hir) h₁ (w .report) p (relists (w .hir) f (λ (g : FunctionV). with-blocks g (changed (λ b. with-rows b rows) k (g .blocks))) (λ g. (refl, same-changed rows k (g .blocks)))))
+          (relists h₁ f (λ (g : FunctionV). with-blocks g (listing (g .blocks) (m h₁ f))) (λ g. (refl, same-listing (g .blocks) (m h₁ f))))
+    ]
 
     pub block-on : (m : Meaning) (f k : ℕ) (w : Walk) → At w → At (walk-block m inner f k w)
     block-on m f k w p =

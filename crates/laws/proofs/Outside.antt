@@ -20,8 +20,15 @@ Nothing-kept a b r s c = Unit
 
 no-more : (m : Meaning) (n₀ : ℕ) → Kept m n₀ free (λ type rows. Unit) (λ type i. Unit) Nothing-kept
 no-more m n₀ = record {
-    ok-sub = λ s o. tt; ok-load = λ type rows i o l g. tt; same = λ h. tt; then = λ p q. tt; more = λ u v l p. tt; idle = λ h. refl;
-    closes = λ type gs a b ms h t l j o. tt; relists = λ h f k w ws low big type yes o two many. tt }
+  ok-sub = λ s o. tt;
+  ok-load = λ type rows i o l g. tt;
+  same = λ h. tt;
+  then = λ p q. tt;
+  more = λ u v l p. tt;
+  idle = λ h. refl;
+  closes = λ type gs a b ms h t l j o. tt;
+  relists = λ h f k w ws low big type yes o two many. tt;
+}
 
 pub what-is-outside-stays : What-is-outside-stays
 what-is-outside-stays m lawful h f a =
@@ -31,5 +38,7 @@ what-is-outside-stays m lawful h f a =
     record {
       outside = λ g l o. r .untouched g o l;
       appended = λ g l e. elim (cases-bool (within g (on-walk depth h f))) [
-          inl i ↦ absurd (both-ways (function-at h g .appended) (a .sound g i .own) e)
-        | inr o ↦ r .untouched g o l ] }
+        | inl i ↦ absurd (both-ways (function-at h g .appended) (a .sound g i .own) e)
+        | inr o ↦ r .untouched g o l
+      ];
+    }

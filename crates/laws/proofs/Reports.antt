@@ -74,9 +74,11 @@ tallied-then a b c r s p q =
       onward = onward-then a b c (p .onward) (q .onward);
       functions = omega arith;
       appended = λ f u v. elim (cases-lt f (length (b .functions))) [
-          inl l ↦ ap (λ (g : FunctionV). g .appended) (q .onward .function f l .0) ∙ p .appended f u l
-        | inr l ↦ q .appended f l v ];
-      tags = omega arith }
+        | inl l ↦ ap (λ (g : FunctionV). g .appended) (q .onward .function f l .0) ∙ p .appended f u l
+        | inr l ↦ q .appended f l v
+      ];
+      tags = omega arith;
+    }
 
 tallied-quiet : (a b : Hir) → Onward a b → Quiet a b → Tallied a b nothing
 tallied-quiet a b o q =
@@ -87,20 +89,21 @@ tallied-quiet a b o q =
 emit-tallied : (gs : List InstructionV) (m : InstructionV) (ms : List InstructionV) (h₀ h : Hir) (es : List OutlinedJsxAttribute) → Quiet h₀ h → Onward h₀ (emit gs m ms h es .hir) → Tallied h₀ (emit gs m ms h es .hir) (emit gs m ms h es .report)
 emit-tallied gs m ms h₀ h es q = emit-ways (λ o. Onward h₀ (o .hir) → Tallied h₀ (o .hir) (o .report)) gs m ms h es
     (λ on.
-      let e = ap (λ (l : List FunctionV). length l) (prepare-quiet h es .functions ∙ q .functions) in
-      let t = prepare-quiet h es .counter in let t₀ = q .counter in
-      record { onward = on; functions = omega arith; appended = λ f u v. absurd (omega arith); tags = omega arith })
+    let e = ap (λ (l : List FunctionV). length l) (prepare-quiet h es .functions ∙ q .functions) in
+    let t = prepare-quiet h es .counter in let t₀ = q .counter in
+    record { onward = on; functions = omega arith; appended = λ f u v. absurd (omega arith); tags = omega arith })
     (λ ls _ _ on.
-      let t = prepare h es in
-      let fs = t .hir .functions in
-      let e = ap (λ (l : List FunctionV). length l) (prepare-quiet h es .functions ∙ q .functions) in
-      let l = length-append fs (emit-outlined-fn t m ms ls ∷ []) in
-      let c = prepare-quiet h es .counter in let c₀ = q .counter in
-      record {
-        onward = on;
-        functions = omega arith;
-        appended = λ f u v. (let s : length fs ≡ f = omega arith in ap (λ (g : FunctionV). g .appended) (getD-push fs (emit-outlined-fn t m ms ls) no-function f s));
-        tags = omega arith })
+    let t = prepare h es in
+    let fs = t .hir .functions in
+    let e = ap (λ (l : List FunctionV). length l) (prepare-quiet h es .functions ∙ q .functions) in
+    let l = length-append fs (emit-outlined-fn t m ms ls ∷ []) in
+    let c = prepare-quiet h es .counter in let c₀ = q .counter in
+    record {
+      onward = on;
+      functions = omega arith;
+      appended = λ f u v. (let s : length fs ≡ f = omega arith in ap (λ (g : FunctionV). g .appended) (getD-push fs (emit-outlined-fn t m ms ls) no-function f s));
+      tags = omega arith;
+    })
 
 close-tallied : (type : ℕ) (gs ms : List InstructionV) (h : Hir) → Tallied h (process-jsx-group type gs ms h .hir) (process-jsx-group type gs ms h .report)
 close-tallied type gs [] h = tallied-refl h
@@ -137,16 +140,18 @@ bound-written (b ∷ t) = ap suc (bound-written t)
 updated-plain : (ids : List ℕ) (t : List Bound) (ms : List InstructionV) → ((i : InstructionV) → Lists ms i → is-element i ≡ true) → (i : InstructionV) → Lists (map (updated ids t) ms) i → is-destructure i ≡ false
 updated-plain ids t [] h i l = lists-none l
 updated-plain ids t (m ∷ ms) h i l = elim (lists-head l) [
-    inl e ↦ ap (λ (z : InstructionV). is-destructure z) e ∙ ap (λ (n : ℕ). eqb n 7) (eqb-true (m .kind) 16 (h m here))
-  | inr k ↦ updated-plain ids t ms (λ j q. h j (there q)) i k ]
+  | inl e ↦ ap (λ (z : InstructionV). is-destructure z) e ∙ ap (λ (n : ℕ). eqb n 7) (eqb-true (m .kind) 16 (h m here))
+  | inr k ↦ updated-plain ids t ms (λ j q. h j (there q)) i k
+]
 
 -- the function binds a written place for each line of the table, and has no other Destructure
 function-properties : (t : Prepared) (m : InstructionV) (ms ls : List InstructionV) → ((i : InstructionV) → Lists (m ∷ ms) i → is-element i ≡ true) → ((i : InstructionV) → Lists ls i → is-global i ≡ true) → properties-of (emit-outlined-fn t m ms ls) ≡ length (t .table)
 function-properties t m ms ls h k =
     let rest = ls ++ emit-updated-jsx (t .table) (m ∷ ms) in
     let none : select is-destructure (rest ++ []) ≡ [] = ap (select is-destructure) (append-nil rest) ∙ select-none is-destructure rest (λ i l. elim (lists-split ls l) [
-        inl q ↦ ap (λ (n : ℕ). eqb n 7) (eqb-true (i .kind) 29 (k i q))
-      | inr q ↦ updated-plain (results (m ∷ ms)) (t .table) (m ∷ ms) h i q ]) in
+      | inl q ↦ ap (λ (n : ℕ). eqb n 7) (eqb-true (i .kind) 29 (k i q))
+      | inr q ↦ updated-plain (results (m ∷ ms)) (t .table) (m ∷ ms) h i q
+    ]) in
     let places : List InstructionV → List PlaceV = λ is. gathered (λ (i : InstructionV). i .places) is in
     ap (λ (is : List InstructionV). length (select is-written (map bound-place (t .table) ++ places is))) none
     ∙ ap (λ (ps : List PlaceV). length (select is-written ps)) (append-nil (map bound-place (t .table)))
@@ -176,29 +181,29 @@ module _ (n₀ : ℕ) where
   emit-bound gs m ms h₀ h es g j e = emit-ways (λ o. Bound-by h₀ (o .hir) (o .report) 0 no-counts) gs m ms h es
       (bound-same h₀ (prepare h es .hir) (prepare-quiet h es .functions ∙ e))
       (λ ls _ from l.
-        let t = prepare h es in
-        let fn = emit-outlined-fn t m ms ls in
-        let s = prepare-quiet h es .functions ∙ e in
-        let l′ : n₀ ≤ length (t .hir .functions) = subst (λ (fs : List FunctionV). n₀ ≤ length fs) (sym s) l in
-        let k = length-append (t .hir .functions) (fn ∷ []) in
-        let p = ap properties-in (drop-append-le n₀ (t .hir .functions) (fn ∷ []) l′) ∙ properties-++ (drop n₀ (t .hir .functions)) (fn ∷ []) in
-        let q = ap (λ (fs : List FunctionV). properties-in (drop n₀ fs)) s in
-        let w = function-properties t m ms ls j (λ i x. g i (from i x)) in
-        (omega arith, omega arith))
+      let t = prepare h es in
+      let fn = emit-outlined-fn t m ms ls in
+      let s = prepare-quiet h es .functions ∙ e in
+      let l′ : n₀ ≤ length (t .hir .functions) = subst (λ (fs : List FunctionV). n₀ ≤ length fs) (sym s) l in
+      let k = length-append (t .hir .functions) (fn ∷ []) in
+      let p = ap properties-in (drop-append-le n₀ (t .hir .functions) (fn ∷ []) l′) ∙ properties-++ (drop n₀ (t .hir .functions)) (fn ∷ []) in
+      let q = ap (λ (fs : List FunctionV). properties-in (drop n₀ fs)) s in
+      let w = function-properties t m ms ls j (λ i x. g i (from i x)) in
+      (omega arith, omega arith))
 
   bound-kept : (m : Meaning) → Kept m n₀ free (λ type rows. Unit) (λ type i. is-global i ≡ true) Bound-by
   bound-kept m = record {
-      ok-sub = λ s o. tt;
-      ok-load = λ type rows i o l g. g;
-      same = λ h. bound-same h h refl;
-      then = λ p q l. (let x = p l in let y = q (x .0) in let a = x .1 in let b = y .1 in (y .0, omega arith));
-      more = λ u v l p. p;
-      idle = λ h. refl;
-      closes = λ type gs a b ms h t l j o. close-ways (λ x. Bound-by h (x .hir) (x .report) 0 no-counts) type gs a b ms h
-          (λ _. bound-same h h refl)
-          (λ _ _. bound-same h (collect-props h (a ∷ b ∷ ms) .hir) (collect-quiet h (a ∷ b ∷ ms) .functions))
-          (λ _ _. let g = collect-props h (a ∷ b ∷ ms) in emit-bound gs a (b ∷ ms) h (g .hir) (g .entries) l j (collect-quiet h (a ∷ b ∷ ms) .functions));
-      relists = λ h f k w ws low big type yes o two many l.
+    ok-sub = λ s o. tt;
+    ok-load = λ type rows i o l g. g;
+    same = λ h. bound-same h h refl;
+    then = λ p q l. (let x = p l in let y = q (x .0) in let a = x .1 in let b = y .1 in (y .0, omega arith));
+    more = λ u v l p. p;
+    idle = λ h. refl;
+    closes = λ type gs a b ms h t l j o. close-ways (λ x. Bound-by h (x .hir) (x .report) 0 no-counts) type gs a b ms h
+        (λ _. bound-same h h refl)
+        (λ _ _. bound-same h (collect-props h (a ∷ b ∷ ms) .hir) (collect-quiet h (a ∷ b ∷ ms) .functions))
+        (λ _ _. let g = collect-props h (a ∷ b ∷ ms) in emit-bound gs a (b ∷ ms) h (g .hir) (g .entries) l j (collect-quiet h (a ∷ b ∷ ms) .functions));
+    relists = λ h f k w ws low big type yes o two many l.
         let rows = rewritten (w ∷ ws) (rows-at h f k) in
         let h₁ = with-list h f k rows in
         let Fn₁ : FunctionV → FunctionV = λ g. with-blocks g (changed (λ b. with-rows b rows) k (g .blocks)) in
@@ -206,7 +211,8 @@ module _ (n₀ : ℕ) where
         let l₁ = length-changed Fn₁ f (h .functions) in
         let l₂ = length-changed Fn₂ f (h₁ .functions) in
         let e = ap properties-in (drop-changed Fn₂ f n₀ (h₁ .functions) low ∙ drop-changed Fn₁ f n₀ (h .functions) low) in
-        (omega arith, omega arith) }
+        (omega arith, omega arith);
+  }
 
 drop-all : (fs : List FunctionV) → properties-in (drop (length fs) fs) ≡ 0
 drop-all [] = refl

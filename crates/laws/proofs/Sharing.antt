@@ -29,13 +29,15 @@ use Rattle.laws.proofs.Sufficing.{Ok, Load-ok, Shown, shown-kept, numbers-kept
 
 accepted-at-first : (h : Hir) (f : ℕ) → Accepts h f → Walk-formed depth h f → Accepted-at-first h f
 accepted-at-first h f a w = record {
-    still = record {
-      once = a .once;
-      used = a .used;
-      own = λ j l. ok-walk h f a w f (in-head f (reached-from 31 h f 0)) j;
-      inner = λ g q j. ok-walk h f a w g (or-right (eqb g f) (within g (reached-from 31 h f 0)) q) j;
-      loads = λ i l. lists-none l };
-    counts = refl }
+  still = record {
+    once = a .once;
+    used = a .used;
+    own = λ j l. ok-walk h f a w f (in-head f (reached-from 31 h f 0)) j;
+    inner = λ g q j. ok-walk h f a w g (or-right (eqb g f) (within g (reached-from 31 h f 0)) q) j;
+    loads = λ i l. lists-none l;
+  };
+  counts = refl;
+}
 
 module _ (m : Meaning) (lawful : Lawful m) (d : ℕ) (h : Hir) (f k : ℕ) (globals : List InstructionV) (r : Report) (a : Still-accepted d h f k globals) (short : k < length (function-at h f .blocks)) where
   abbrev n₀ : ℕ
@@ -46,10 +48,11 @@ module _ (m : Meaning) (lawful : Lawful m) (d : ℕ) (h : Hir) (f k : ℕ) (glob
 
   rest : (p : Price) (R : Hir → Hir → Report → ℕ → Counts → Type 0) (kept : Kept m n₀ p Ok Load-ok R) → Rest m lawful n₀ p Ok Load-ok R kept d h f k
   rest p R kept = record {
-      low = a .used f (in-head f (reached-from d h f k));
-      distinct = a .once;
-      each = λ g q. (a .used g (or-right (eqb g f) (within g (reached-from d h f k)) q), a .inner g q);
-      own = a .own }
+    low = a .used f (in-head f (reached-from d h f k));
+    distinct = a .once;
+    each = λ g q. (a .used g (or-right (eqb g f) (within g (reached-from d h f k)) q), a .inner g q);
+    own = a .own;
+  }
 
   abbrev v : Walk
   v = after-block m d h f k globals r
@@ -70,11 +73,13 @@ module _ (m : Meaning) (lawful : Lawful m) (d : ℕ) (h : Hir) (f k : ℕ) (glob
       record {
         once = n .distinct;
         used = λ g q. elim (or-cases (eqb g f) (within g (reached-from d (v .hir) f (suc k))) q) [
-            inl e ↦ (let x = eqb-true g f e in let l = n .low in omega arith)
-          | inr i ↦ (let l = n .each g i .0 in omega arith) ];
+          | inl e ↦ (let x = eqb-true g f e in let l = n .low in omega arith)
+          | inr i ↦ (let l = n .each g i .0 in omega arith)
+        ];
         own = n .own;
         inner = λ g q. n .each g q .1;
-        loads = shown .next-loads }
+        loads = shown .next-loads;
+      }
 
   block-shared : Block-shared m d h f k globals r
   block-shared =
@@ -84,7 +89,9 @@ module _ (m : Meaning) (lawful : Lawful m) (d : ℕ) (h : Hir) (f k : ℕ) (glob
       let pw = placed .within in let pr = placed .related in
       record {
         share = record { identifiers = omega arith; instructions = omega arith; numbers = omega arith; places = omega arith; blocks = omega arith; functions = omega arith };
-        next = still; len = shown .len }
+        next = still;
+        len = shown .len;
+      }
 
 -- The rows of a block.
 
@@ -102,7 +109,8 @@ rows-begin d h f k globals r a short =
       inner = λ g q. a .inner g (in-all g q);
       own = subst Rows-accepted (sym (append-none (backwards (backwards rows)) ∙ backwards-twice rows)) (a .own k (omega arith));
       elements = λ i l. lists-none l;
-      loads = a .loads }
+      loads = a .loads;
+    }
 
 module _ (m : Meaning) (lawful : Lawful m) (d type : ℕ) (w : Walk) (todo : List InstructionV) (a : Rows-still-accepted d w todo) where
   abbrev used₀ : ℕ
@@ -125,7 +133,8 @@ row-shared m lawful d type w i todo a =
     let big = f .big in
     record {
       share = record { identifiers = omega arith; instructions = omega arith; numbers = omega arith; places = omega arith; blocks = omega arith; functions = omega arith };
-      next = record { once = f .distinct; used = λ g q. (let x = f .each g q .0 in omega arith); inner = λ g q. f .each g q .1; own = f .own; elements = f .jsx; loads = f .loads } }
+      next = record { once = f .distinct; used = λ g q. (let x = f .each g q .0 in omega arith); inner = λ g q. f .each g q .1; own = f .own; elements = f .jsx; loads = f .loads };
+    }
 
 enters : (d : ℕ) (w : Walk) (i : InstructionV) (todo : List InstructionV) → Rows-still-accepted (suc d) w (i ∷ todo) → is-function i ≡ true → Still-accepted d (w .hir) (i .function) 0 []
 enters d w i todo a h =
@@ -139,7 +148,8 @@ enters d w i todo a h =
       used = λ g q. a .used g (in-all g q);
       own = λ j l. a .inner x (in-all x (in-head x (reached-from d (w .hir) x 0))) j;
       inner = λ g q. a .inner g (in-all g (or-right (eqb g x) (within g (reached-from d (w .hir) x 0)) q));
-      loads = λ j l. lists-none l }
+      loads = λ j l. lists-none l;
+    }
 
 last-shared : (m : Meaning) → Lawful m → (d type : ℕ) (w : Walk) → Rows-still-accepted d w [] → Last-shared d type w
 last-shared m lawful d type w a =

@@ -27,20 +27,32 @@ identifier-refl i = record { declaration = refl; name = inl refl }
 
 identifier-then : (i j k : IdentifierV) → Same-identifier i j → Same-identifier j k → Same-identifier i k
 identifier-then i j k p q = record {
-    declaration = q .declaration ∙ p .declaration;
-    name = elim (q .name) [
-        inl e ↦ elim (p .name) [
-            inl d ↦ inl (e ∙ d)
-          | inr d ↦ inr (d .0, e ∙ d .1) ]
-      | inr e ↦ elim (p .name) [
-            inl d ↦ inr (sym d ∙ e .0, e .1 ∙ ap (λ (n : ℕ). promoted (temporary n)) (p .declaration))
-          | inr d ↦ (let z : _≡_ {A = ℕ} 0 1 = cc in absurd (omega arith)) ] ] }
+  declaration = q .declaration ∙ p .declaration;
+  name = elim (q .name) [
+    | inl e ↦ elim (p .name) [
+      | inl d ↦ inl (e ∙ d)
+      | inr d ↦ inr (d .0, e ∙ d .1)
+    ]
+    | inr e ↦ elim (p .name) [
+      | inl d ↦ inr (sym d ∙ e .0, e .1 ∙ ap (λ (n : ℕ). promoted (temporary n)) (p .declaration))
+      | inr d ↦ (let z : _≡_ {A = ℕ} 0 1 = cc in absurd (omega arith))
+    ]
+  ];
+}
 
 pub onward-refl : (h : Hir) → Onward h h
 onward-refl h = record {
-    identifiers = omega arith; identifier = λ x l. identifier-refl (identifier-at h x); fresh = λ x a b. absurd (omega arith);
-    functions = omega arith; function = λ f l. function-refl (function-at h f);
-    text = ([], sym (append-nil (h .text))); used-rows = omega arith; bears = λ n q. q; counter = omega arith; mark = omega arith }
+  identifiers = omega arith;
+  identifier = λ x l. identifier-refl (identifier-at h x);
+  fresh = λ x a b. absurd (omega arith);
+  functions = omega arith;
+  function = λ f l. function-refl (function-at h f);
+  text = ([], sym (append-nil (h .text)));
+  used-rows = omega arith;
+  bears = λ n q. q;
+  counter = omega arith;
+  mark = omega arith;
+}
 
 pub onward-then : (a b c : Hir) → Onward a b → Onward b c → Onward a c
 onward-then a b c p q =
@@ -53,31 +65,50 @@ onward-then a b c p q =
       identifiers = omega arith;
       identifier = λ x s. identifier-then (identifier-at a x) (identifier-at b x) (identifier-at c x) (p .identifier x s) (q .identifier x (omega arith));
       fresh = λ x s t. elim (cases-lt x (length (b .identifiers))) [
-          inl u ↦ q .identifier x u .declaration ∙ p .fresh x s u
-        | inr u ↦ q .fresh x u t ];
+        | inl u ↦ q .identifier x u .declaration ∙ p .fresh x s u
+        | inr u ↦ q .fresh x u t
+      ];
       functions = omega arith;
       function = λ x s. function-then (function-at a x) (function-at b x) (function-at c x) (p .function x s) (q .function x (omega arith));
       text = (p .text .0 ++ q .text .0, q .text .1 ∙ ap (λ (z : Bytes). z ++ q .text .0) (p .text .1) ∙ append-assoc (a .text) (p .text .0) (q .text .0));
       used-rows = omega arith;
       bears = λ n b. q .bears n (p .bears n b);
       counter = omega arith;
-      mark = omega arith }
+      mark = omega arith;
+    }
 
 -- a change of the identifiers alone
 with-onward : (h : Hir) (is : List IdentifierV)
-  → length (h .identifiers) ≤ length is
-  → ((x : ℕ) → x < length (h .identifiers) → Same-identifier (identifier-at h x) (getD is x no-identifier))
-  → ((x : ℕ) → length (h .identifiers) ≤ x → x < length is → getD is x no-identifier .declaration ≡ x)
-  → Onward h (with-identifiers h is)
+    → length (h .identifiers) ≤ length is
+    → ((x : ℕ) → x < length (h .identifiers) → Same-identifier (identifier-at h x) (getD is x no-identifier))
+    → ((x : ℕ) → length (h .identifiers) ≤ x → x < length is → getD is x no-identifier .declaration ≡ x)
+    → Onward h (with-identifiers h is)
 with-onward h is l s n = record {
-    identifiers = l; identifier = s; fresh = n; functions = omega arith; function = λ f _. function-refl (function-at h f);
-    text = ([], sym (append-nil (h .text))); used-rows = omega arith; bears = λ n q. q; counter = omega arith; mark = omega arith }
+  identifiers = l;
+  identifier = s;
+  fresh = n;
+  functions = omega arith;
+  function = λ f _. function-refl (function-at h f);
+  text = ([], sym (append-nil (h .text)));
+  used-rows = omega arith;
+  bears = λ n q. q;
+  counter = omega arith;
+  mark = omega arith;
+}
 
 writes-onward : (h : Hir) (made : Bytes) → Onward h (write h made)
 writes-onward h made = record {
-    identifiers = omega arith; identifier = λ x l. identifier-refl (identifier-at h x); fresh = λ x a b. absurd (omega arith);
-    functions = omega arith; function = λ f l. function-refl (function-at h f);
-    text = (made, refl); used-rows = omega arith; bears = λ n q. q; counter = omega arith; mark = omega arith }
+  identifiers = omega arith;
+  identifier = λ x l. identifier-refl (identifier-at h x);
+  fresh = λ x a b. absurd (omega arith);
+  functions = omega arith;
+  function = λ f l. function-refl (function-at h f);
+  text = (made, refl);
+  used-rows = omega arith;
+  bears = λ n q. q;
+  counter = omega arith;
+  mark = omega arith;
+}
 
 promotes-onward : (h : Hir) (x : ℕ) → Onward h (promote h x)
 promotes-onward h x =
@@ -85,28 +116,30 @@ promotes-onward h x =
     let is : List IdentifierV = changed promoting x (h .identifiers) in
     let l = length-changed promoting x (h .identifiers) in
     promote-ways (Onward h) h x
-      (λ e. onward-then h (with-identifiers h is) (write (with-identifiers h is) (temporary (i .declaration))) (with-onward h is (omega arith)
-          (λ y s. elim (cases-eq y x) [
-              inl q ↦ subst (λ z. Same-identifier (identifier-at h z) (getD is z no-identifier)) (sym q)
-                (subst (λ (z : IdentifierV). Same-identifier i z) (sym (at-changed promoting x (h .identifiers) no-identifier (omega arith))) (record { declaration = refl; name = inr (e, refl) }))
-            | inr q ↦ subst (λ (z : IdentifierV). Same-identifier (identifier-at h y) z) (sym (at-other promoting x y (h .identifiers) no-identifier q)) (identifier-refl (identifier-at h y)) ])
-          (λ y s t. absurd (omega arith))) (writes-onward (with-identifiers h is) (temporary (i .declaration))))
-      (onward-refl h)
+    (λ e. onward-then h (with-identifiers h is) (write (with-identifiers h is) (temporary (i .declaration))) (with-onward h is (omega arith)
+    (λ y s. elim (cases-eq y x) [
+      | inl q ↦ subst (λ z. Same-identifier (identifier-at h z) (getD is z no-identifier)) (sym q)
+          (subst (λ (z : IdentifierV). Same-identifier i z) (sym (at-changed promoting x (h .identifiers) no-identifier (omega arith))) (record { declaration = refl; name = inr (e, refl) }))
+      | inr q ↦ subst (λ (z : IdentifierV). Same-identifier (identifier-at h y) z) (sym (at-other promoting x y (h .identifiers) no-identifier q)) (identifier-refl (identifier-at h y))
+    ])
+    (λ y s t. absurd (omega arith))) (writes-onward (with-identifiers h is) (temporary (i .declaration))))
+    (onward-refl h)
 
 pub freshens-onward : (h : Hir) (n : NameV) → Onward h (fresh h n)
 freshens-onward h n =
     let new : IdentifierV = record { declaration = length (h .identifiers); name = n } in
     let l = length-append (h .identifiers) (new ∷ []) in
     with-onward h (h .identifiers ++ (new ∷ [])) (omega arith)
-      (λ x s. subst (λ (z : IdentifierV). Same-identifier (identifier-at h x) z) (sym (getD-append-left (h .identifiers) (new ∷ []) no-identifier x s)) (identifier-refl (identifier-at h x)))
-      (λ x s t. let e : length (h .identifiers) ≡ x = omega arith in ap (λ (z : IdentifierV). z .declaration) (getD-push (h .identifiers) new no-identifier x e) ∙ e)
+    (λ x s. subst (λ (z : IdentifierV). Same-identifier (identifier-at h x) z) (sym (getD-append-left (h .identifiers) (new ∷ []) no-identifier x s)) (identifier-refl (identifier-at h x)))
+    (λ x s t. let e : length (h .identifiers) ≡ x = omega arith in ap (λ (z : IdentifierV). z .declaration) (getD-push (h .identifiers) new no-identifier x e) ∙ e)
 
 -- a tag is above the mark
 free-above : (k : ℕ) (names : Bytes → Bool) (n : ℕ) → n ≤ free-tag k names n
 free-above zero names n = omega arith
 free-above (suc k) names n = elim (cases-bool (names (tag-name n))) [
-    inl e ↦ (let q = free-above k names (suc n) in let p = pick-true (names (tag-name n)) (free-tag k names (suc n)) n e in omega arith)
-  | inr e ↦ (let p = pick-false (names (tag-name n)) (free-tag k names (suc n)) n e in omega arith) ]
+  | inl e ↦ (let q = free-above k names (suc n) in let p = pick-true (names (tag-name n)) (free-tag k names (suc n)) n e in omega arith)
+  | inr e ↦ (let p = pick-false (names (tag-name n)) (free-tag k names (suc n)) n e in omega arith)
+]
 
 pub tag-above : (h : Hir) → h .mark < next-tag h
 tag-above h = free-above (suc (length (h .identifiers) + h .used-rows)) (known h) (suc (h .mark))
@@ -115,30 +148,53 @@ tags-onward : (h : Hir) → Onward h (take-tag h)
 tags-onward h =
     let q = tag-above h in
     record {
-      identifiers = omega arith; identifier = λ x l. identifier-refl (identifier-at h x); fresh = λ x a b. absurd (omega arith);
-      functions = omega arith; function = λ f l. function-refl (function-at h f);
-      text = (tag-name (next-tag h), refl); used-rows = omega arith; bears = λ n q. q; counter = omega arith; mark = omega arith }
+      identifiers = omega arith;
+      identifier = λ x l. identifier-refl (identifier-at h x);
+      fresh = λ x a b. absurd (omega arith);
+      functions = omega arith;
+      function = λ f l. function-refl (function-at h f);
+      text = (tag-name (next-tag h), refl);
+      used-rows = omega arith;
+      bears = λ n q. q;
+      counter = omega arith;
+      mark = omega arith;
+    }
 
 appends-onward : (h : Hir) (f : FunctionV) (tag : Bytes) → Onward h (outline-function h f tag)
 appends-onward h f tag =
     let l = length-append (h .functions) (f ∷ []) in
     record {
-      identifiers = omega arith; identifier = λ x _. identifier-refl (identifier-at h x); fresh = λ x a b. absurd (omega arith);
+      identifiers = omega arith;
+      identifier = λ x _. identifier-refl (identifier-at h x);
+      fresh = λ x a b. absurd (omega arith);
       functions = omega arith;
       function = λ g s. subst (λ (z : FunctionV). Same-function (function-at h g) z) (sym (getD-append-left (h .functions) (f ∷ []) no-function g s)) (function-refl (function-at h g));
-      text = ([], sym (append-nil (h .text))); used-rows = omega arith; bears = λ n q. or-left (h .bears n) (same-bytes n tag) q; counter = omega arith; mark = omega arith }
+      text = ([], sym (append-nil (h .text)));
+      used-rows = omega arith;
+      bears = λ n q. or-left (h .bears n) (same-bytes n tag) q;
+      counter = omega arith;
+      mark = omega arith;
+    }
 
 pub relists-onward : (h : Hir) (f : ℕ) (Fn : FunctionV → FunctionV) → ((g : FunctionV) → Same-function g (Fn g)) → Onward h (with-functions h (changed Fn f (h .functions)))
 relists-onward h f Fn q =
     let l = length-changed Fn f (h .functions) in
     record {
-      identifiers = omega arith; identifier = λ x _. identifier-refl (identifier-at h x); fresh = λ x a b. absurd (omega arith);
+      identifiers = omega arith;
+      identifier = λ x _. identifier-refl (identifier-at h x);
+      fresh = λ x a b. absurd (omega arith);
       functions = omega arith;
       function = λ g s. elim (cases-eq g f) [
-          inl e ↦ subst (λ z. Same-function (function-at h z) (getD (changed Fn f (h .functions)) z no-function)) (sym e)
+        | inl e ↦ subst (λ z. Same-function (function-at h z) (getD (changed Fn f (h .functions)) z no-function)) (sym e)
             (subst (λ (z : FunctionV). Same-function (function-at h f) z) (sym (at-changed Fn f (h .functions) no-function (omega arith))) (q (function-at h f)))
-        | inr e ↦ subst (λ (z : FunctionV). Same-function (function-at h g) z) (sym (at-other Fn f g (h .functions) no-function e)) (function-refl (function-at h g)) ];
-      text = ([], sym (append-nil (h .text))); used-rows = omega arith; bears = λ n q. q; counter = omega arith; mark = omega arith }
+        | inr e ↦ subst (λ (z : FunctionV). Same-function (function-at h g) z) (sym (at-other Fn f g (h .functions) no-function e)) (function-refl (function-at h g))
+      ];
+      text = ([], sym (append-nil (h .text)));
+      used-rows = omega arith;
+      bears = λ n q. q;
+      counter = omega arith;
+      mark = omega arith;
+    }
 
 pub close-onward : (type : ℕ) (gs ms : List InstructionV) (h : Hir) → Onward h (process-jsx-group type gs ms h .hir)
 close-onward = close-on Onward onward-refl onward-then writes-onward promotes-onward tags-onward freshens-onward appends-onward
@@ -170,6 +226,7 @@ Step-onward a b r = Onward a b
 
 pub steps-go-onward : Every-step-goes-onward
 steps-go-onward = record {
-    group = close-onward;
-    rows = λ d m type w is. back-on Step-onward onward-refl (λ a b c r s. onward-then a b c) close-onward relists-onward (outline-jsx-impl d m) (walk-onward d m) (w .hir) type w is (onward-refl (w .hir));
-    blocks = λ n d m f k w. blocks-on Step-onward onward-refl (λ a b c r s. onward-then a b c) close-onward relists-onward (outline-jsx-impl d m) (walk-onward d m) (w .hir) n m f k w (onward-refl (w .hir)) }
+  group = close-onward;
+  rows = λ d m type w is. back-on Step-onward onward-refl (λ a b c r s. onward-then a b c) close-onward relists-onward (outline-jsx-impl d m) (walk-onward d m) (w .hir) type w is (onward-refl (w .hir));
+  blocks = λ n d m f k w. blocks-on Step-onward onward-refl (λ a b c r s. onward-then a b c) close-onward relists-onward (outline-jsx-impl d m) (walk-onward d m) (w .hir) n m f k w (onward-refl (w .hir));
+}

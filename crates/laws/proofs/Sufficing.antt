@@ -41,8 +41,9 @@ no-hits r [] o = refl
 no-hits r (i ∷ is) o =
     let q = out-parts (r .root) (writes i) (gathered writes is) o in
     let n : hit r i ≡ false = elim (cases-bool (hit r i)) [
-        inl e ↦ in-out (r .root) (writes i) (subst (λ x. In x (writes i)) (sym (eqb-true (r .root) (i .result .identifier) (and-parts (is-element i) (eqb (r .root) (i .result .identifier)) e .1))) (own-write i)) (q .0)
-      | inr e ↦ e ] in
+      | inl e ↦ in-out (r .root) (writes i) (subst (λ x. In x (writes i)) (sym (eqb-true (r .root) (i .result .identifier) (and-parts (is-element i) (eqb (r .root) (i .result .identifier)) e .1))) (own-write i)) (q .0)
+      | inr e ↦ e
+    ] in
     ap (λ (l : List InstructionV). length l) (pick-false (hit r i) (i ∷ select (hit r) is) (select (hit r) is) n) ∙ no-hits r is (q .1)
 
 one-hit : (r : Rewrite) (is : List InstructionV) → Distinct (gathered writes is) → hits r is ≤ 1
@@ -50,12 +51,13 @@ one-hit r [] d = omega arith
 one-hit r (i ∷ is) d =
     let q = one-hit r is (distinct-right (writes i) (gathered writes is) d) in
     elim (cases-bool (hit r i)) [
-      inl e ↦
-        let x = ap (λ (l : List InstructionV). length l) (pick-true (hit r i) (i ∷ select (hit r) is) (select (hit r) is) e) in
-        let s = eqb-true (r .root) (i .result .identifier) (and-parts (is-element i) (eqb (r .root) (i .result .identifier)) e .1) in
-        let z = no-hits r is (subst (λ y. Out y (gathered writes is)) (sym s) (distinct-apart (i .result .identifier) (writes i) (gathered writes is) d (own-write i))) in
-        omega arith
-    | inr e ↦ (let x = ap (λ (l : List InstructionV). length l) (pick-false (hit r i) (i ∷ select (hit r) is) (select (hit r) is) e) in omega arith) ]
+      | inl e ↦
+          let x = ap (λ (l : List InstructionV). length l) (pick-true (hit r i) (i ∷ select (hit r) is) (select (hit r) is) e) in
+          let s = eqb-true (r .root) (i .result .identifier) (and-parts (is-element i) (eqb (r .root) (i .result .identifier)) e .1) in
+          let z = no-hits r is (subst (λ y. Out y (gathered writes is)) (sym s) (distinct-apart (i .result .identifier) (writes i) (gathered writes is) d (own-write i))) in
+          omega arith
+      | inr e ↦ (let x = ap (λ (l : List InstructionV). length l) (pick-false (hit r i) (i ∷ select (hit r) is) (select (hit r) is) e) in omega arith)
+    ]
 
 abbrev Twos : List Rewrite → Type 0
 Twos ws = (v : Rewrite) → Lists ws v → length (v .rows) ≡ 2
@@ -76,14 +78,15 @@ more-rows r ws (i ∷ is) t =
     let l₁ = length-append (rewritten-row (r ∷ ws) i) (rewritten (r ∷ ws) is) in
     let l₂ = length-append (rewritten-row ws i) (rewritten ws is) in
     elim (cases-bool (hit r i)) [
-      inl e ↦
-        let x = ap (λ (l : List InstructionV). length l) (pick-true (hit r i) (i ∷ select (hit r) is) (select (hit r) is) e) in
-        let y = ap (λ (l : List InstructionV). length l) (pick-true (hit r i) (r .rows) (rewritten-row ws i) e) in
-        omega arith
-    | inr e ↦
-        let x = ap (λ (l : List InstructionV). length l) (pick-false (hit r i) (i ∷ select (hit r) is) (select (hit r) is) e) in
-        let y = ap (λ (l : List InstructionV). length l) (pick-false (hit r i) (r .rows) (rewritten-row ws i) e) in
-        omega arith ]
+      | inl e ↦
+          let x = ap (λ (l : List InstructionV). length l) (pick-true (hit r i) (i ∷ select (hit r) is) (select (hit r) is) e) in
+          let y = ap (λ (l : List InstructionV). length l) (pick-true (hit r i) (r .rows) (rewritten-row ws i) e) in
+          omega arith
+      | inr e ↦
+          let x = ap (λ (l : List InstructionV). length l) (pick-false (hit r i) (i ∷ select (hit r) is) (select (hit r) is) e) in
+          let y = ap (λ (l : List InstructionV). length l) (pick-false (hit r i) (r .rows) (rewritten-row ws i) e) in
+          omega arith
+    ]
 
 same-rows : (is : List InstructionV) → length (rewritten [] is) ≡ length is
 same-rows [] = refl
@@ -122,17 +125,17 @@ blocks-changed Fn e (suc f) (g ∷ fs) = let q = blocks-changed Fn e f fs in ome
 
 pub shown-kept : (m : Meaning) (n₀ : ℕ) → Kept m n₀ free Ok Load-ok (λ a b r s c. Shown a b c)
 shown-kept m n₀ = record {
-    ok-sub = λ {type} {xs} {ys} s o. ok-part type xs ys s o;
-    ok-load = λ type rows i o l g. o .0 i l .load g;
-    same = λ h. record { identifiers = omega arith; instructions = omega arith; blocks = omega arith; functions = omega arith };
-    then = λ p q. (let a = p .identifiers in let b = q .identifiers in let c = p .instructions in let d = q .instructions in let e = p .blocks in let f = q .blocks in let g = p .functions in let h = q .functions in record { identifiers = omega arith; instructions = omega arith; blocks = omega arith; functions = omega arith });
-    more = λ u v l p. (let a = p .identifiers in let c = p .instructions in let e = p .blocks in let g = p .functions in let l₁ = l .attributes in let l₂ = l .children in let l₃ = l .elements in let l₄ = l .pairs in record { identifiers = omega arith; instructions = omega arith; blocks = omega arith; functions = omega arith });
-    idle = λ h. refl;
-    closes = λ type gs a b ms h t l j o.
+  ok-sub = λ {type} {xs} {ys} s o. ok-part type xs ys s o;
+  ok-load = λ type rows i o l g. o .0 i l .load g;
+  same = λ h. record { identifiers = omega arith; instructions = omega arith; blocks = omega arith; functions = omega arith };
+  then = λ p q. (let a = p .identifiers in let b = q .identifiers in let c = p .instructions in let d = q .instructions in let e = p .blocks in let f = q .blocks in let g = p .functions in let h = q .functions in record { identifiers = omega arith; instructions = omega arith; blocks = omega arith; functions = omega arith });
+  more = λ u v l p. (let a = p .identifiers in let c = p .instructions in let e = p .blocks in let g = p .functions in let l₁ = l .attributes in let l₂ = l .children in let l₃ = l .elements in let l₄ = l .pairs in record { identifiers = omega arith; instructions = omega arith; blocks = omega arith; functions = omega arith });
+  idle = λ h. refl;
+  closes = λ type gs a b ms h t l j o.
       let q = group-cost type gs a b ms h l j (o .0) in
       let i = q .identifiers in let u = q .used-rows in let bl = q .blocks in let f = q .functions in
       record { identifiers = omega arith; instructions = omega arith; blocks = omega arith; functions = omega arith };
-    relists = λ h f k w ws low big type yes o two many.
+  relists = λ h f k w ws low big type yes o two many.
       let rows = rewritten (w ∷ ws) (rows-at h f k) in
       let h₁ = with-list h f k rows in
       let Fn₁ : FunctionV → FunctionV = λ g. with-blocks g (changed (λ b. with-rows b rows) k (g .blocks)) in
@@ -141,31 +144,34 @@ shown-kept m n₀ = record {
       let l₂ = length-changed Fn₂ f (h₁ .functions) in
       let b₁ = blocks-changed Fn₁ (λ g. length-changed (λ b. with-rows b rows) k (g .blocks)) f (h .functions) in
       let b₂ = blocks-changed Fn₂ (λ g. listing-length (g .blocks) (m h₁ f)) f (h₁ .functions) in
-      record { identifiers = omega arith; instructions = omega arith; blocks = omega arith; functions = omega arith } }
+      record { identifiers = omega arith; instructions = omega arith; blocks = omega arith; functions = omega arith };
+}
 
 -- List numbers and places.
 
 pub numbers-kept : (m : Meaning) (n₀ : ℕ) → Kept m n₀ numbers Ok Load-ok (λ a b r s c. s ≤ numbers-allowed c)
 numbers-kept m n₀ = record {
-    ok-sub = λ {type} {xs} {ys} s o. ok-part type xs ys s o;
-    ok-load = λ type rows i o l g. o .0 i l .load g;
-    same = λ h. omega arith;
-    then = λ p q. omega arith;
-    more = λ u v l p. (let l₃ = l .elements in let l₄ = l .pairs in let l₅ = l .listed in omega arith);
-    idle = λ h. refl;
-    closes = λ type gs a b ms h t l j o. (let q = group-cost type gs a b ms h l j (o .0) .numbers in omega arith);
-    relists = λ h f k w ws low big type yes o two many. (let q = rewritten-length (w ∷ ws) (rows-at h f k) two (o .1) in omega arith) }
+  ok-sub = λ {type} {xs} {ys} s o. ok-part type xs ys s o;
+  ok-load = λ type rows i o l g. o .0 i l .load g;
+  same = λ h. omega arith;
+  then = λ p q. omega arith;
+  more = λ u v l p. (let l₃ = l .elements in let l₄ = l .pairs in let l₅ = l .listed in omega arith);
+  idle = λ h. refl;
+  closes = λ type gs a b ms h t l j o. (let q = group-cost type gs a b ms h l j (o .0) .numbers in omega arith);
+  relists = λ h f k w ws low big type yes o two many. (let q = rewritten-length (w ∷ ws) (rows-at h f k) two (o .1) in omega arith);
+}
 
 pub places-kept : (m : Meaning) (n₀ : ℕ) → Kept m n₀ places Ok Load-ok (λ a b r s c. s ≤ places-allowed c)
 places-kept m n₀ = record {
-    ok-sub = λ {type} {xs} {ys} s o. ok-part type xs ys s o;
-    ok-load = λ type rows i o l g. o .0 i l .load g;
-    same = λ h. omega arith;
-    then = λ p q. omega arith;
-    more = λ u v l p. (let l₁ = l .attributes in let l₂ = l .children in let l₃ = l .elements in let l₄ = l .pairs in omega arith);
-    idle = λ h. refl;
-    closes = λ type gs a b ms h t l j o. (let q = group-cost type gs a b ms h l j (o .0) .places in omega arith);
-    relists = λ h f k w ws low big type yes o two many. omega arith }
+  ok-sub = λ {type} {xs} {ys} s o. ok-part type xs ys s o;
+  ok-load = λ type rows i o l g. o .0 i l .load g;
+  same = λ h. omega arith;
+  then = λ p q. omega arith;
+  more = λ u v l p. (let l₁ = l .attributes in let l₂ = l .children in let l₃ = l .elements in let l₄ = l .pairs in omega arith);
+  idle = λ h. refl;
+  closes = λ type gs a b ms h t l j o. (let q = group-cost type gs a b ms h l j (o .0) .places in omega arith);
+  relists = λ h f k w ws low big type yes o two many. omega arith;
+}
 
 -- an accepted walk of rows of that form
 pub ok-walk : (h : Hir) (f : ℕ) → Accepts h f → Walk-formed depth h f → (g : ℕ) → In g (on-walk depth h f) → (j : ℕ) → Ok (function-at h g .type) (block-rows (function-at h g .blocks) j)

@@ -31,16 +31,18 @@ use Rattle.laws.proofs.Costs.{count, count-yes, count-more, All-elements, memb
 digits-length : (k f n : ℕ) → n < 10 ^ suc k → length (digits-of f n) ≤ suc k
 digits-length k zero n h = omega arith
 digits-length k (suc f) n h = elim (cases-bool (ltb n 10)) [
-    inl e ↦ (let x = ap (λ (l : Bytes). length l) (pick-true (ltb n 10) ((48 + n) ∷ []) (digits-of f (n / 10) ++ ((48 + n % 10) ∷ [])) e) in omega arith)
+  | inl e ↦ (let x = ap (λ (l : Bytes). length l) (pick-true (ltb n 10) ((48 + n) ∷ []) (digits-of f (n / 10) ++ ((48 + n % 10) ∷ [])) e) in omega arith)
   | inr e ↦
       let x = ap (λ (l : Bytes). length l) (pick-false (ltb n 10) ((48 + n) ∷ []) (digits-of f (n / 10) ++ ((48 + n % 10) ∷ [])) e) in
       let y = length-append (digits-of f (n / 10)) ((48 + n % 10) ∷ []) in
       let big = ltb-false n 10 e in
       let go : (j : ℕ) → n < 10 ^ suc j → length (digits-of f (n / 10)) ≤ j = elim [
-          zero ↦ λ l. absurd (omega arith)
-        | suc j ↦ λ l. digits-length j f (n / 10) (let p = pow-suc 10 (suc j) in omega arith) ] in
+        | zero ↦ λ l. absurd (omega arith)
+        | suc j ↦ λ l. digits-length j f (n / 10) (let p = pow-suc 10 (suc j) in omega arith)
+      ] in
       let z = go k h in
-      omega arith ]
+      omega arith
+]
 
 pub numeral-length : (k n : ℕ) → n < 10 ^ suc k → length (numeral n) ≤ suc k
 unfolding numeral
@@ -61,11 +63,13 @@ renamed-bounded (suc k) seen old name c =
     let q = renamed-bounded k seen old (old ++ numeral c) (suc c) in
     let stop : Made = record { name = name; counter = c } in
     elim (borne name seen) as (λ b. Renamed old name c (suc k) (elim b as (λ _. Made) [ true ↦ next | false ↦ stop ])) [
-      true ↦ (let qc = q .counter in let qa = q .above in record {
-          counter = omega arith;
-          length-is = λ w l n. q .length-is w (let x = n c qa in let y = length-append old (numeral c) in omega arith) n;
-          above = omega arith })
-    | false ↦ record { counter = omega arith; length-is = λ w l n. l; above = omega arith } ]
+      | true ↦ (let qc = q .counter in let qa = q .above in record {
+        counter = omega arith;
+        length-is = λ w l n. q .length-is w (let x = n c qa in let y = length-append old (numeral c) in omega arith) n;
+        above = omega arith;
+      })
+      | false ↦ record { counter = omega arith; length-is = λ w l n. l; above = omega arith }
+    ]
 
 -- Declarations of 32 bits.
 
@@ -86,10 +90,12 @@ promote-declared h x d = promote-ways Declared h x (λ _ y. let e = promoting-de
 -- with fewer than 65,536 identifiers, those that are added are declared too
 pub onward-declared : (a b : Hir) → Onward a b → length (b .identifiers) ≤ 65535 → Declared a → Declared b
 onward-declared a b o l d x = elim (cases-lt x (length (a .identifiers))) [
-    inl s ↦ (let e = o .identifier x s .declaration in let q = d x in omega arith)
+  | inl s ↦ (let e = o .identifier x s .declaration in let q = d x in omega arith)
   | inr s ↦ elim (cases-lt x (length (b .identifiers))) [
-      inl t ↦ (let e = o .fresh x s t in omega arith)
-    | inr t ↦ (let e = ap (λ (i : IdentifierV). i .declaration) (getD-past (b .identifiers) x no-identifier t) in omega arith) ] ]
+    | inl t ↦ (let e = o .fresh x s t in omega arith)
+    | inr t ↦ (let e = ap (λ (i : IdentifierV). i .declaration) (getD-past (b .identifiers) x no-identifier t) in omega arith)
+  ]
+]
 
 -- Gathering.
 
@@ -126,11 +132,11 @@ place-counted members g p ps n room =
     let m₂ = count-more 2 p ps in
     let m₄ = count-more 4 p ps in
     gather-ways (λ g′. Counted-up g g′ p ps) members g p
-      (λ _. record { counter = n; seen = omega arith })
-      (λ _ r. let y = count-yes 2 p ps r in record { counter = made-bounded g (spell (p .name)) n (omega arith) .0; seen = omega arith })
-      (λ _ _ _. record { counter = n; seen = omega arith })
-      (λ _ _ _ c. let y = count-yes 4 p ps (and-parts (role-is 4 p) (not (within (p .identifier) members)) c .0) in record { counter = made-bounded g t-name n (omega arith) .0; seen = omega arith })
-      (λ _ _ _ _. record { counter = n; seen = omega arith })
+    (λ _. record { counter = n; seen = omega arith })
+    (λ _ r. let y = count-yes 2 p ps r in record { counter = made-bounded g (spell (p .name)) n (omega arith) .0; seen = omega arith })
+    (λ _ _ _. record { counter = n; seen = omega arith })
+    (λ _ _ _ c. let y = count-yes 4 p ps (and-parts (role-is 4 p) (not (within (p .identifier) members)) c .0) in record { counter = made-bounded g t-name n (omega arith) .0; seen = omega arith })
+    (λ _ _ _ _. record { counter = n; seen = omega arith })
 
 gather-counted : (members : List ℕ) (g : Gathering) (ps : List PlaceV) → Low-counter g → length (g .seen) + count 2 ps + count 4 ps ≤ 65535 → Low-counter (gather members g ps) × (length (gather members g ps .seen) ≤ length (g .seen) + count 2 ps + count 4 ps)
 gather-counted members g [] n room = (n, omega arith)
@@ -151,17 +157,18 @@ changed-text : (h : Hir) (old new : Bytes) → (Declared h → Declared (write-c
 changed-text h old new =
     let l = length-append (h .text) new in
     elim (same-bytes old new) as (λ t. (Declared h → Declared (elim t as (λ _. Hir) [ true ↦ h | false ↦ write h new ])) × (length (elim t as (λ _. Hir) [ true ↦ h | false ↦ write h new ] .text) ≤ length (h .text) + length new)) [
-      true ↦ ((λ d. d), omega arith)
-    | false ↦ ((λ d. d), omega arith) ]
+      | true ↦ ((λ d. d), omega arith)
+      | false ↦ ((λ d. d), omega arith)
+    ]
 
 promote-text : (h : Hir) (x : ℕ) → Declared h → length (promote h x .text) ≤ length (h .text) + 12
 promote-text h x d = promote-ways (λ h′. length (h′ .text) ≤ length (h .text) + 12) h x
     (λ _.
-      let i = identifier-at h x in
-      let l = length-append (h .text) (temporary (i .declaration)) in
-      let b = d x in
-      let n = numeral-length 9 (i .declaration) (let big : 10 ^ 10 ≡ 10000000000 = refl in omega arith) in
-      omega arith)
+    let i = identifier-at h x in
+    let l = length-append (h .text) (temporary (i .declaration)) in
+    let b = d x in
+    let n = numeral-length 9 (i .declaration) (let big : 10 ^ 10 ≡ 10000000000 = refl in omega arith) in
+    omega arith)
     (omega arith)
 
 record Wrote (g g′ : Gathering) (p : PlaceV) (ps : List PlaceV) : Type 0 where
@@ -174,23 +181,23 @@ place-wrote members g p ps n d room =
     let m₄ = count-more 4 p ps in
     let ml = letters-more p ps in
     gather-ways (λ g′. Wrote g g′ p ps) members g p
-      (λ _. record { declared = d; text = omega arith })
-      (λ _ r.
-        let y = count-yes 2 p ps r in
-        let z = letters-yes p ps r in
-        let old = spell (p .name) in
-        let b = made-bounded g old n (omega arith) .1 in
-        let c = changed-text (g .hir) old (generate-name (g .seen) old (g .counter) .name) in
-        let c₁ = c .1 in
-        record { declared = c .0 d; text = omega arith })
-      (λ _ _ _. record { declared = d; text = omega arith })
-      (λ _ _ _ c.
-        let y = count-yes 4 p ps (and-parts (role-is 4 p) (not (within (p .identifier) members)) c .0) in
-        let b = made-bounded g t-name n (omega arith) .1 in
-        let q = promote-text (g .hir) (p .identifier) d in
-        let l = length-append (promote (g .hir) (p .identifier) .text) (generate-name (g .seen) t-name (g .counter) .name) in
-        record { declared = promote-declared (g .hir) (p .identifier) d; text = omega arith })
-      (λ _ _ _ _. record { declared = d; text = omega arith })
+    (λ _. record { declared = d; text = omega arith })
+    (λ _ r.
+    let y = count-yes 2 p ps r in
+    let z = letters-yes p ps r in
+    let old = spell (p .name) in
+    let b = made-bounded g old n (omega arith) .1 in
+    let c = changed-text (g .hir) old (generate-name (g .seen) old (g .counter) .name) in
+    let c₁ = c .1 in
+    record { declared = c .0 d; text = omega arith })
+    (λ _ _ _. record { declared = d; text = omega arith })
+    (λ _ _ _ c.
+    let y = count-yes 4 p ps (and-parts (role-is 4 p) (not (within (p .identifier) members)) c .0) in
+    let b = made-bounded g t-name n (omega arith) .1 in
+    let q = promote-text (g .hir) (p .identifier) d in
+    let l = length-append (promote (g .hir) (p .identifier) .text) (generate-name (g .seen) t-name (g .counter) .name) in
+    record { declared = promote-declared (g .hir) (p .identifier) d; text = omega arith })
+    (λ _ _ _ _. record { declared = d; text = omega arith })
 
 gather-wrote : (members : List ℕ) (g : Gathering) (ps : List PlaceV) → Low-counter g → Declared (g .hir) → length (g .seen) + count 2 ps + count 4 ps ≤ 65535 → length (gather members g ps .hir .text) ≤ length (g .hir .text) + may-write ps
 gather-wrote members g [] n d room = omega arith
@@ -256,8 +263,8 @@ prepare-text h es small tag =
 -- A whole group.
 
 pub group-text : (type : ℕ) (gs : List InstructionV) (a b : InstructionV) (ms : List InstructionV) (h : Hir) → All-elements (a ∷ b ∷ ms) → Declared h → rows-counts (a ∷ b ∷ ms) .attributes + rows-counts (a ∷ b ∷ ms) .children ≤ 65535
-  → length (process-jsx-group type gs (a ∷ b ∷ ms) h .hir .identifiers) ≤ 65535 → process-jsx-group type gs (a ∷ b ∷ ms) h .hir .mark < 10 ^ 20
-  → length (process-jsx-group type gs (a ∷ b ∷ ms) h .hir .text) ≤ length (h .text) + (rows-counts (a ∷ b ∷ ms) .letters + 10 * rows-counts (a ∷ b ∷ ms) .attributes + 23 * rows-counts (a ∷ b ∷ ms) .children + 39)
+    → length (process-jsx-group type gs (a ∷ b ∷ ms) h .hir .identifiers) ≤ 65535 → process-jsx-group type gs (a ∷ b ∷ ms) h .hir .mark < 10 ^ 20
+    → length (process-jsx-group type gs (a ∷ b ∷ ms) h .hir .text) ≤ length (h .text) + (rows-counts (a ∷ b ∷ ms) .letters + 10 * rows-counts (a ∷ b ∷ ms) .attributes + 23 * rows-counts (a ∷ b ∷ ms) .children + 39)
 group-text type gs a b ms h j d room =
     let all = a ∷ b ∷ ms in
     let g = collect-props h all in
@@ -265,10 +272,10 @@ group-text type gs a b ms h j d room =
     let pm = prepare-quiet (g .hir) (g .entries) .mark in
     let P : Outcome → Type 0 = λ o. length (o .hir .identifiers) ≤ 65535 → o .hir .mark < 10 ^ 20 → length (o .hir .text) ≤ length (h .text) + (rows-counts all .letters + 10 * rows-counts all .attributes + 23 * rows-counts all .children + 39) in
     close-ways P type gs a b ms h (λ _ i m. omega arith) (λ _ _ i m. omega arith)
-      (λ _ _. emit-ways P gs a (b ∷ ms) (g .hir) (g .entries)
-        (λ i m. let q = prepare-text (g .hir) (g .entries) i (omega arith) in omega arith)
-        (λ ls _ _ i m.
-          let t = prepare (g .hir) (g .entries) in
-          let l = length-append (t .hir .identifiers) (record { declaration = length (t .hir .identifiers); name = absent } ∷ []) in
-          let q = prepare-text (g .hir) (g .entries) (omega arith) (omega arith) in
-          omega arith))
+    (λ _ _. emit-ways P gs a (b ∷ ms) (g .hir) (g .entries)
+    (λ i m. let q = prepare-text (g .hir) (g .entries) i (omega arith) in omega arith)
+    (λ ls _ _ i m.
+    let t = prepare (g .hir) (g .entries) in
+    let l = length-append (t .hir .identifiers) (record { declaration = length (t .hir .identifiers); name = absent } ∷ []) in
+    let q = prepare-text (g .hir) (g .entries) (omega arith) (omega arith) in
+    omega arith))

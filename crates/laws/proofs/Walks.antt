@@ -43,8 +43,9 @@ gathered-same a b (y ∷ ys) h = ap₂ (λ l n. l ++ n) (h y (in-head y ys)) (ga
 in-gather : (a : ℕ → List ℕ) (x y : ℕ) (ys : List ℕ) → In y ys → In x (a y) → In x (gathered a ys)
 in-gather a x y [] h k = absurd (both-ways false refl h)
 in-gather a x y (z ∷ ys) h k = elim (or-cases (eqb y z) (within y ys) h) [
-    inl e ↦ in-left x (a z) (gathered a ys) (subst (λ n. In x (a n)) (eqb-true y z e) k)
-  | inr e ↦ in-right x (a z) (gathered a ys) (in-gather a x y ys e k) ]
+  | inl e ↦ in-left x (a z) (gathered a ys) (subst (λ n. In x (a n)) (eqb-true y z e) k)
+  | inr e ↦ in-right x (a z) (gathered a ys) (in-gather a x y ys e k)
+]
 
 -- The blocks that are still to be walked.
 
@@ -141,14 +142,15 @@ module _ (m : Meaning) (lawful : Lawful m) (n₀ : ℕ) (p : Price) (Ok : ℕ �
   idle-close h u = resum 0 (p .group h (done h)) (sym (kept .idle h)) (kept .more no-counts u (le-none u) (kept .same h))
 
   close-related : (type : ℕ) (gs ms : List InstructionV) (h : Hir) → ((i : InstructionV) → Lists gs i → Load-ok type i) → All-elements ms → Ok type ms
-    → R h (process-jsx-group type gs ms h .hir) (process-jsx-group type gs ms h .report) (p .group h (process-jsx-group type gs ms h)) (outside-components type (closing-counts ms))
+      → R h (process-jsx-group type gs ms h .hir) (process-jsx-group type gs ms h .report) (p .group h (process-jsx-group type gs ms h)) (outside-components type (closing-counts ms))
   close-related type gs [] h l q o = idle-close h (outside-components type no-counts)
   close-related type gs (a ∷ []) h l q o = idle-close h (outside-components type no-counts)
   close-related type gs (a ∷ b ∷ ms) h l q o =
       let c = closing-counts (a ∷ b ∷ ms) in
       elim (cases-bool (eqb type 0)) [
-        inl e ↦ close-ways (λ x. R h (x .hir) (x .report) (p .group h x) (outside-components type c)) type gs a b ms h (λ _. idle-close h (outside-components type c)) (λ n _. absurd (both-ways (eqb type 0) n e)) (λ n _. absurd (both-ways (eqb type 0) n e))
-      | inr e ↦ kept .more c (outside-components type c) (le-same c (outside-components type c) (sym (pick-false (eqb type 0) no-counts c e))) (kept .closes type gs a b ms h e l q o) ]
+        | inl e ↦ close-ways (λ x. R h (x .hir) (x .report) (p .group h x) (outside-components type c)) type gs a b ms h (λ _. idle-close h (outside-components type c)) (λ n _. absurd (both-ways (eqb type 0) n e)) (λ n _. absurd (both-ways (eqb type 0) n e))
+        | inr e ↦ kept .more c (outside-components type c) (le-same c (outside-components type c) (sym (pick-false (eqb type 0) no-counts c e))) (kept .closes type gs a b ms h e l q o)
+      ]
 
   abbrev Ok-function : FunctionV → Type 0
   Ok-function g = (j : ℕ) → Ok (g .type) (block-rows (g .blocks) j)
@@ -204,10 +206,11 @@ module _ (m : Meaning) (lawful : Lawful m) (n₀ : ℕ) (p : Price) (Ok : ℕ �
 
     clean-sub : (s : Hir) {xs ys : List ℕ} → Sublist xs ys → Clean s ys → Clean s xs
     clean-sub s b c = record {
-        distinct = sub-distinct (sub-gathered (on-walk d h₀) b) (c .distinct);
-        apart = sub-out f (sub-gathered (on-walk d h₀) b) (c .apart);
-        same = λ g i. c .same g (sub-in g (sub-gathered (on-walk d h₀) b) i);
-        reached = λ g i. c .reached g (sub-in g (sub-gathered (on-walk d h₀) b) i) }
+      distinct = sub-distinct (sub-gathered (on-walk d h₀) b) (c .distinct);
+      apart = sub-out f (sub-gathered (on-walk d h₀) b) (c .apart);
+      same = λ g i. c .same g (sub-in g (sub-gathered (on-walk d h₀) b) i);
+      reached = λ g i. c .reached g (sub-in g (sub-gathered (on-walk d h₀) b) i);
+    }
 
     clean-same : (s t : Hir) (todo : List ℕ) → ((g : ℕ) → In g (Reach todo) → function-at t g ≡ function-at s g) → Clean s todo → Clean t todo
     clean-same s t todo e c = record { distinct = c .distinct; apart = c .apart; same = λ g i. e g i ∙ c .same g i; reached = c .reached }
@@ -274,23 +277,40 @@ module _ (m : Meaning) (lawful : Lawful m) (n₀ : ℕ) (p : Price) (Ok : ℕ �
             two = λ v l. elim (lists-split (o .rewrites) l) [ inl q ↦ fw .two v q | inr q ↦ n .two v q ];
             component = λ e. ap₂ (λ (x y : List Rewrite). x ++ y) (fw .component e) (n .component e);
             clean = clean-same (w .hir) (o .hir) (inner todo ++ later) (λ g q. close-keeps type (w .globals) (w .members) (w .hir) g (let l = reach-low g (n .clean .reached g q) in omega arith)) (n .clean);
-            untouched = λ g q l. close-keeps type (w .globals) (w .members) (w .hir) g (omega arith) ∙ n .untouched g q l }
+            untouched = λ g q l. close-keeps type (w .globals) (w .members) (w .hir) g (omega arith) ∙ n .untouched g q l;
+          }
 
       later-row : (w : Walk) (i : InstructionV) (todo back : List InstructionV) → is-function i ≡ false → Inside w (i ∷ todo) back → Inside w todo (i ∷ back)
       later-row w i todo back h n =
           let b = n .few in
           record {
-            growing = n .growing; same-f = n .same-f; loads = n .loads; members = skips (n .members); jsx = n .jsx; few = omega arith; two = n .two; component = n .component;
+            growing = n .growing;
+            same-f = n .same-f;
+            loads = n .loads;
+            members = skips (n .members);
+            jsx = n .jsx;
+            few = omega arith;
+            two = n .two;
+            component = n .component;
             clean = subst (λ (l : List ℕ). Clean (w .hir) (l ++ later)) (pick-false (is-function i) (i .function ∷ inner todo) (inner todo) h) (n .clean);
-            untouched = n .untouched }
+            untouched = n .untouched;
+          }
 
       global-inside : (w : Walk) (i : InstructionV) (todo back : List InstructionV) → Lists rows i → is-global i ≡ true → Inside w (i ∷ todo) back → Inside (with-load w i) todo (i ∷ back)
       global-inside w i todo back l g n =
           let q = later-row w i todo back (ap (λ (x : ℕ). eqb x 31) (eqb-true (i .kind) 29 g)) n in
           record {
-            growing = q .growing; same-f = q .same-f;
+            growing = q .growing;
+            same-f = q .same-f;
             loads = λ j a. elim (lists-head a) [ inl e ↦ subst (Load-ok type) (sym e) (kept .ok-load type rows i ok l g) | inr a′ ↦ n .loads j a′ ];
-            members = q .members; jsx = q .jsx; few = q .few; two = q .two; component = q .component; clean = q .clean; untouched = q .untouched }
+            members = q .members;
+            jsx = q .jsx;
+            few = q .few;
+            two = q .two;
+            component = q .component;
+            clean = q .clean;
+            untouched = q .untouched;
+          }
 
       join-inside : (w : Walk) (i : InstructionV) (todo back : List InstructionV) → is-element i ≡ true → Inside w (i ∷ todo) back → Inside (joined w i) todo (i ∷ back)
       join-inside w i todo back h n =
@@ -298,11 +318,17 @@ module _ (m : Meaning) (lawful : Lawful m) (n₀ : ℕ) (p : Price) (Ok : ℕ �
           let b = n .few in
           let e = one i h in
           record {
-            growing = q .growing; same-f = q .same-f; loads = q .loads;
+            growing = q .growing;
+            same-f = q .same-f;
+            loads = q .loads;
             members = keeps (n .members);
             jsx = λ j a. elim (lists-head a) [ inl e′ ↦ subst (λ (z : InstructionV). is-element z ≡ true) (sym e′) h | inr a′ ↦ n .jsx j a′ ];
             few = omega arith;
-            two = q .two; component = q .component; clean = q .clean; untouched = q .untouched }
+            two = q .two;
+            component = q .component;
+            clean = q .clean;
+            untouched = q .untouched;
+          }
 
       -- an inner function
       module _ (w : Walk) (i : InstructionV) (todo back : List InstructionV) (h : is-function i ≡ true) (n : Inside w (i ∷ todo) back) where
@@ -326,11 +352,12 @@ module _ (m : Meaning) (lawful : Lawful m) (n₀ : ℕ) (p : Price) (Ok : ℕ �
 
         fine : Fine d (w .hir) x
         fine = record {
-            distinct = subst Distinct (sym same-mine) (distinct-left mine (Reach rest) (cl .distinct));
-            each = λ g q.
+          distinct = subst Distinct (sym same-mine) (distinct-left mine (Reach rest) (cl .distinct));
+          each = λ g q.
               let q′ = in-left g mine (Reach rest) (subst (λ (l : List ℕ). In g l) same-mine q) in
               let e₀ = fine₀ .each g (cl .reached g q′) in
-              (e₀ .0, subst Ok-function (sym (cl .same g q′)) (e₀ .1)) }
+              (e₀ .0, subst Ok-function (sym (cl .same g q′)) (e₀ .1));
+        }
 
         res : Result d (w .hir) x
         res = let a = n .growing in let b = start .growing in ih (w .hir) x (omega arith) fine
@@ -351,7 +378,8 @@ module _ (m : Meaning) (lawful : Lawful m) (n₀ : ℕ) (p : Price) (Ok : ℕ �
               two = n .two;
               component = n .component;
               clean = clean-same (w .hir) (outline-jsx-impl d m (w .hir) x .hir) rest (λ g q. res .untouched g (out g (out-if g mine (λ a′. in-out g (Reach rest) q (distinct-apart g mine (Reach rest) (cl .distinct) a′)))) (let lw = reach-low g (cl .reached g (in-right g mine (Reach rest) q)) in omega arith)) (clean-sub (w .hir) (skips (sub-refl rest)) cl);
-              untouched = λ g o l. res .untouched g (out g (out-if g mine (λ a′. in-out g (f ∷ Reached) (or-right (eqb g f) (within g Reached) (cl .reached g (in-left g mine (Reach rest) a′))) o))) (omega arith) ∙ n .untouched g o l }
+              untouched = λ g o l. res .untouched g (out g (out-if g mine (λ a′. in-out g (f ∷ Reached) (or-right (eqb g f) (within g Reached) (cl .reached g (in-left g mine (Reach rest) a′))) o))) (omega arith) ∙ n .untouched g o l;
+            }
 
       pass-inside : (w : Walk) (i : InstructionV) (todo back : List InstructionV) → Lists rows i → Inside w (i ∷ todo) back → Inside (passed (outline-jsx-impl d m) type w i) todo (i ∷ back)
       pass-inside w i todo back l n = passed-ways (λ v. Inside v todo (i ∷ back)) (outline-jsx-impl d m) type w i
@@ -382,22 +410,22 @@ module _ (m : Meaning) (lawful : Lawful m) (n₀ : ℕ) (p : Price) (Ok : ℕ �
           (no-counts, subst (λ (z : Hir). R h₀ z (v .report) (y + 0) (plus u no-counts)) (sym e) (subst (λ (z : Report). R h₀ (w .hir) z (y + 0) (plus u no-counts)) (sym e′) (still y u q)), omega arith)
 
       pass-step : (w : Walk) (i : InstructionV) (todo back : List InstructionV) → Sublist back rows → Inside w (i ∷ todo) back → (y : ℕ) (u : Counts) → R h₀ (w .hir) (w .report) y u
-        → Step w i todo y u (passed (outline-jsx-impl d m) type w i) (passing p (takes p d m) type w i)
+          → Step w i todo y u (passed (outline-jsx-impl d m) type w i) (passing p (takes p d m) type w i)
       pass-step w i todo back s n y u q = passing-ways (Step w i todo y u) p (outline-jsx-impl d m) (takes p d m) type w i
           (λ g. quiet w (with-load w i) i todo y u refl refl (ap (λ (z : ℕ). eqb z 31) (eqb-true (i .kind) 29 g)) (omega arith) q)
           (λ _ h.
-            let δ = walk-counts d (w .hir) (i .function) in
-            let lc = le-same δ (tally (λ g. function-counts (function-at h₀ g)) (on-walk d h₀ (i .function))) (counted w i todo back h n) in
-            let lt = tally-++ (λ g. function-counts (function-at h₀ g)) (on-walk d h₀ (i .function)) (Reach (inner todo)) .0 in
-            let le = le-same (reached-counts (i .function ∷ inner todo)) (reached-counts (inner (i ∷ todo))) (ap reached-counts (sym (pick-true (is-function i) (i .function ∷ inner todo) (inner todo) h))) in
-            let lo = outside-le type (open-counts todo (w .members)) (open-counts (i ∷ todo) (w .members)) (omega arith) in
-            (δ, kept .then q (res w i todo back h n .related), omega arith))
+          let δ = walk-counts d (w .hir) (i .function) in
+          let lc = le-same δ (tally (λ g. function-counts (function-at h₀ g)) (on-walk d h₀ (i .function))) (counted w i todo back h n) in
+          let lt = tally-++ (λ g. function-counts (function-at h₀ g)) (on-walk d h₀ (i .function)) (Reach (inner todo)) .0 in
+          let le = le-same (reached-counts (i .function ∷ inner todo)) (reached-counts (inner (i ∷ todo))) (ap reached-counts (sym (pick-true (is-function i) (i .function ∷ inner todo) (inner todo) h))) in
+          let lo = outside-le type (open-counts todo (w .members)) (open-counts (i ∷ todo) (w .members)) (omega arith) in
+          (δ, kept .then q (res w i todo back h n .related), omega arith))
           (λ _ h j _. quiet w (joined w i) i todo y u refl refl h (omega arith) q)
           (λ _ h j _.
-            let ms = w .members in
-            let lo = outside-two type (closing-counts ms) (open-counts todo (i ∷ [])) (open-counts (i ∷ todo) ms) (open-close todo ms i j (n .jsx)) in
-            let lr = le-same (reached-counts (inner todo)) (reached-counts (inner (i ∷ todo))) (sym (reach-later i todo h)) in
-            (outside-components type (closing-counts ms), kept .then q (close-related type (w .globals) ms (w .hir) (n .loads) (n .jsx) (ok-members w (i ∷ todo) back s n)), omega arith))
+          let ms = w .members in
+          let lo = outside-two type (closing-counts ms) (open-counts todo (i ∷ [])) (open-counts (i ∷ todo) ms) (open-close todo ms i j (n .jsx)) in
+          let lr = le-same (reached-counts (inner todo)) (reached-counts (inner (i ∷ todo))) (sym (reach-later i todo h)) in
+          (outside-components type (closing-counts ms), kept .then q (close-related type (w .globals) ms (w .hir) (n .loads) (n .jsx) (ok-members w (i ∷ todo) back s n)), omega arith))
           (λ _ h _. quiet w w i todo y u refl refl h (omega arith) q)
 
       walk-inside : (w : Walk) (todo back : List InstructionV) → rows ≡ backwards todo ++ back → Inside w todo back → Inside (walk-back (outline-jsx-impl d m) type w todo) [] rows
@@ -407,13 +435,13 @@ module _ (m : Meaning) (lawful : Lawful m) (n₀ : ℕ) (p : Price) (Ok : ℕ �
           walk-inside (passed (outline-jsx-impl d m) type w i) todo (i ∷ back) eq′ (pass-inside w i todo back (subst (λ (z : List InstructionV). Lists z i) (sym eq′) (lists-right (backwards todo) here)) n)
 
       walk-related : (w : Walk) (todo back : List InstructionV) → rows ≡ backwards todo ++ back → Inside w todo back → (y : ℕ) (u : Counts) → R h₀ (w .hir) (w .report) y u
-        → R h₀ (walk-back (outline-jsx-impl d m) type w todo .hir) (walk-back (outline-jsx-impl d m) type w todo .report) (y + going-back p (outline-jsx-impl d m) (takes p d m) type w todo) (plus u (ahead w todo))
+          → R h₀ (walk-back (outline-jsx-impl d m) type w todo .hir) (walk-back (outline-jsx-impl d m) type w todo .report) (y + going-back p (outline-jsx-impl d m) (takes p d m) type w todo) (plus u (ahead w todo))
       walk-related w [] back eq n y u q =
           let ms = w .members in
           let s : Sublist back rows = subst (λ (z : List InstructionV). Sublist back z) (sym eq) (sub-refl back) in
           let lo = outside-le type (closing-counts ms) (open-counts [] ms) (open-last ms (n .jsx)) in
           kept .more (plus u (outside-components type (closing-counts ms))) (plus u (ahead w [])) (omega arith)
-            (kept .then q (close-related type (w .globals) ms (w .hir) (n .loads) (n .jsx) (ok-members w [] back s n)))
+          (kept .then q (close-related type (w .globals) ms (w .hir) (n .loads) (n .jsx) (ok-members w [] back s n)))
       walk-related w (i ∷ todo) back eq n y u q =
           let eq′ : rows ≡ backwards todo ++ (i ∷ back) = eq ∙ append-assoc (backwards todo) (i ∷ []) back in
           let s : Sublist back rows = subst (λ (z : List InstructionV). Sublist back z) (sym eq′) (sub-front (backwards todo) (skips (sub-refl back))) in
@@ -423,13 +451,21 @@ module _ (m : Meaning) (lawful : Lawful m) (n₀ : ℕ) (p : Price) (Ok : ℕ �
           let fin = walk-related v todo (i ∷ back) eq′ (pass-inside w i todo back (subst (λ (z : List InstructionV). Lists z i) (sym eq′) (lists-right (backwards todo) here)) n) (y + t) (plus u (st .0)) (st .1) in
           let l = st .2 in
           kept .more (plus (plus u (st .0)) (ahead v todo)) (plus u (ahead w (i ∷ todo))) (omega arith)
-            (resum (y + t + going-back p (outline-jsx-impl d m) (takes p d m) type v todo) (y + (t + going-back p (outline-jsx-impl d m) (takes p d m) type v todo)) (omega arith) fin)
+          (resum (y + t + going-back p (outline-jsx-impl d m) (takes p d m) type v todo) (y + (t + going-back p (outline-jsx-impl d m) (takes p d m) type v todo)) (omega arith) fin)
 
       start-inside : (rep : Report) → Inside (start-block c gs rep) (backwards rows) []
       start-inside rep = record {
-          growing = omega arith; same-f = refl; loads = λ i l. subst (λ z. Load-ok z i) (sym (start .type)) (start .loads i l); members = ends; jsx = λ i l. lists-none l; few = omega arith; two = λ v l. lists-none l; component = λ _. refl;
-          clean = subst (Clean c) (later-split bs k short) (start .clean);
-          untouched = start .untouched }
+        growing = omega arith;
+        same-f = refl;
+        loads = λ i l. subst (λ z. Load-ok z i) (sym (start .type)) (start .loads i l);
+        members = ends;
+        jsx = λ i l. lists-none l;
+        few = omega arith;
+        two = λ v l. lists-none l;
+        component = λ _. refl;
+        clean = subst (Clean c) (later-split bs k short) (start .clean);
+        untouched = start .untouched;
+      }
 
       -- after the block, less is left of the blocks to come
       record Passed-block (s : Hir) (gs′ : List InstructionV) : Type 0 where
@@ -453,9 +489,11 @@ module _ (m : Meaning) (lawful : Lawful m) (n₀ : ℕ) (p : Price) (Ok : ℕ �
                 type = ap (λ (g : FunctionV). g .type) (n .same-f) ∙ start .type;
                 loads = λ i l. subst (λ z. Load-ok z i) (start .type) (n .loads i l);
                 clean = subst (λ (g : FunctionV). Clean hv (inner-of (drop (suc k) (g .blocks)))) (sym (n .same-f)) (n .clean);
-                untouched = n .untouched };
+                untouched = n .untouched;
+              };
               counts = subst (λ (g : FunctionV). Le (blocks-counts (drop (suc k) (g .blocks))) (blocks-counts (drop (suc k) bs))) (sym (n .same-f)) (le-refl (blocks-counts (drop (suc k) bs)));
-              inside = subst (λ (g : FunctionV). Sublist (inner-of (drop (suc k) (g .blocks))) later) (sym (n .same-f)) (sub-refl later) }
+              inside = subst (λ (g : FunctionV). Sublist (inner-of (drop (suc k) (g .blocks))) later) (sym (n .same-f)) (sub-refl later);
+            }
 
         abbrev h₁ : Hir
         h₁ = with-list hv f k (rewritten (v .rewrites) (rows-at hv f k))
@@ -489,17 +527,17 @@ module _ (m : Meaning) (lawful : Lawful m) (n₀ : ℕ) (p : Price) (Ok : ℕ �
 
         inside₂ : Sublist (inner-of (drop (suc k) (function-at h₂ f .blocks))) later
         inside₂ = subst (λ (g : FunctionV). Sublist (inner-of (drop (suc k) (g .blocks))) later) (sym at₂)
-          (subst (λ (l : List ℕ). Sublist (inner-of (drop (suc k) (listing (function-at h₁ f .blocks) (m h₁ f)))) l) (ap (λ (g : FunctionV). inner-of (drop (suc k) (g .blocks))) at₁ ∙ later-changed new-rows k (function-at hv f .blocks) ∙ ap (λ (g : FunctionV). inner-of (drop (suc k) (g .blocks))) (n .same-f))
+            (subst (λ (l : List ℕ). Sublist (inner-of (drop (suc k) (listing (function-at h₁ f .blocks) (m h₁ f)))) l) (ap (λ (g : FunctionV). inner-of (drop (suc k) (g .blocks))) at₁ ∙ later-changed new-rows k (function-at hv f .blocks) ∙ ap (λ (g : FunctionV). inner-of (drop (suc k) (g .blocks))) (n .same-f))
             (later-thinned (suc k) thinned))
 
         counts₂ : Le (blocks-counts (drop (suc k) (function-at h₂ f .blocks))) (blocks-counts (drop (suc k) bs))
         counts₂ = subst (λ (g : FunctionV). Le (blocks-counts (drop (suc k) (g .blocks))) (blocks-counts (drop (suc k) bs))) (sym at₂)
-          (subst (λ (z : Counts). Le (blocks-counts (drop (suc k) (listing (function-at h₁ f .blocks) (m h₁ f)))) z) (ap (λ (g : FunctionV). blocks-counts (drop (suc k) (g .blocks))) at₁ ∙ counts-changed new-rows k (function-at hv f .blocks) ∙ ap (λ (g : FunctionV). blocks-counts (drop (suc k) (g .blocks))) (n .same-f))
+            (subst (λ (z : Counts). Le (blocks-counts (drop (suc k) (listing (function-at h₁ f .blocks) (m h₁ f)))) z) (ap (λ (g : FunctionV). blocks-counts (drop (suc k) (g .blocks))) at₁ ∙ counts-changed new-rows k (function-at hv f .blocks) ∙ ap (λ (g : FunctionV). blocks-counts (drop (suc k) (g .blocks))) (n .same-f))
             (counts-thinned (suc k) thinned))
 
         part₂ : (j : ℕ) → suc k ≤ j → Sublist (block-rows (function-at h₂ f .blocks) j) (block-rows bs₀ j)
         part₂ j l = subst (λ (g : FunctionV). Sublist (block-rows (g .blocks) j) (block-rows bs₀ j)) (sym at₂)
-          (sub-trans (thinned-sub (thinned-block (still-read (listing (function-at h₁ f .blocks) (m h₁ f))) thinned j))
+            (sub-trans (thinned-sub (thinned-block (still-read (listing (function-at h₁ f .blocks) (m h₁ f))) thinned j))
             (subst (λ (z : List InstructionV). Sublist z (block-rows bs₀ j)) (sym (ap (λ (g : FunctionV). block-rows (g .blocks) j) at₁ ∙ changed-there new-rows j k (function-at hv f .blocks) (λ e. omega arith) ∙ ap (λ (g : FunctionV). block-rows (g .blocks) j) (n .same-f))) (start .part j (omega arith))))
 
         changed-block : Passed-block h₂ (v .globals)
@@ -515,40 +553,43 @@ module _ (m : Meaning) (lawful : Lawful m) (n₀ : ℕ) (p : Price) (Ok : ℕ �
                 type = ap (λ (g : FunctionV). g .type) at₂ ∙ ap (λ (g : FunctionV). g .type) at₁ ∙ ap (λ (g : FunctionV). g .type) (n .same-f) ∙ start .type;
                 loads = λ i l. subst (λ z. Load-ok z i) (start .type) (n .loads i l);
                 clean = clean-sub h₂ inside₂ (clean-same hv h₂ later (λ g q. there₂ g (λ e. in-out f (Reach later) (subst (λ x. In x (Reach later)) e q) (n .clean .apart))) (n .clean));
-                untouched = λ g o l. there₂ g (λ e. in-out f (f ∷ Reached) (in-head f Reached) (subst (λ z. Out z (f ∷ Reached)) e o)) ∙ n .untouched g o l };
+                untouched = λ g o l. there₂ g (λ e. in-out f (f ∷ Reached) (in-head f Reached) (subst (λ z. Out z (f ∷ Reached)) e o)) ∙ n .untouched g o l;
+              };
               counts = counts₂;
-              inside = inside₂ }
+              inside = inside₂;
+            }
 
         finish : Passed-block (finished m f k v) (v .globals)
         finish = elim (v .rewrites) as (λ ws. Passed-block (elim ws [ [] ↦ hv | w ∷ rs ↦ h₂ ]) (v .globals)) [ [] ↦ idle-block | w ∷ rs ↦ changed-block ]
 
         finish-related : (y : ℕ) (u : Counts) → R h₀ hv (v .report) y (plus u (ahead (start-block c gs nothing) (backwards rows)))
-          → R h₀ (finished m f k v) (v .report) (y + relisting p (v .rewrites) (rows-at hv f k)) (plus u (plus (outside-components type (block-counts rows)) (reached-counts (inner (backwards rows)))))
+            → R h₀ (finished m f k v) (v .report) (y + relisting p (v .rewrites) (rows-at hv f k)) (plus u (plus (outside-components type (block-counts rows)) (reached-counts (inner (backwards rows)))))
         finish-related y u q =
             let same-rows : rows-at hv f k ≡ rows = ap (λ (g : FunctionV). block-rows (g .blocks) k) (n .same-f) in
             let lb = rows-backwards rows in
             let none : Le (open-counts (backwards rows) []) (plus (rows-counts rows) (pair (rows-counts rows .elements / 2))) = omega arith in
             let B : List Rewrite → Type 0 = λ ws. v .rewrites ≡ ws → R h₀ (elim ws [ [] ↦ hv | w ∷ rs ↦ h₂ ]) (v .report) (y + relisting p ws (rows-at hv f k)) (plus u (plus (outside-components type (block-counts rows)) (reached-counts (inner (backwards rows))))) in
             (elim (v .rewrites) as B [
-              [] ↦ λ e.
-                let lo = outside-le type (open-counts (backwards rows) []) (block-counts rows) (le-trans (open-counts (backwards rows) []) (plus (rows-counts rows) (pair (rows-counts rows .elements / 2))) (block-counts rows) none (block-share rows)) in
-                resum y (y + 0) (omega arith) (kept .more (plus u (ahead (start-block c gs nothing) (backwards rows))) (plus u (plus (outside-components type (block-counts rows)) (reached-counts (inner (backwards rows))))) (omega arith) q)
-            | w ∷ rs ↦ λ e.
-                let yes : eqb type 0 ≡ false = elim (cases-bool (eqb type 0)) [ inl t ↦ (let z : (w ∷ rs) ≡ [] = sym e ∙ n .component t in let o : _≡_ {A = ℕ} 0 1 = cc in absurd (omega arith)) | inr t ↦ t ] in
-                let fw : 2 * length (v .rewrites) + length (v .members) ≤ rows-counts rows .elements = n .few in
-                let fw′ : 2 * length (w ∷ rs) + length (v .members) ≤ rows-counts rows .elements = subst (λ (z : List Rewrite). 2 * length z + length (v .members) ≤ rows-counts rows .elements) e fw in
-                let fw″ : 2 * length (w ∷ rs) ≤ rows-counts rows .elements = omega arith in
-                let a = start .growing in let b = n .growing in
-                let step = kept .relists hv f k w rs f-low (omega arith) type yes (subst (Ok type) (sym same-rows) ok) (λ x l. n .two x (subst (λ (z : List Rewrite). Lists z x) (sym e) l)) (subst (λ (z : List InstructionV). 2 * length (w ∷ rs) ≤ rows-counts z .elements) (sym same-rows) fw″) in
-                let at : (z : Counts) → outside-components type z ≡ z = λ z. pick-false (eqb type 0) no-counts z yes in
-                let l₁ = le-same (outside-components type (open-counts (backwards rows) [])) (open-counts (backwards rows) []) (at (open-counts (backwards rows) [])) in
-                let l₂ = le-same (block-counts rows) (outside-components type (block-counts rows)) (sym (at (block-counts rows))) in
-                let l₃ = block-listed rows (omega arith) in
-                let N = new-list (length (rows-at hv f k) + rows-counts (rows-at hv f k) .elements / 2) in
-                let l₄ : Le N (new-list (length rows + rows-counts rows .elements / 2)) = le-same N (new-list (length rows + rows-counts rows .elements / 2)) (ap (λ (z : List InstructionV). new-list (length z + rows-counts z .elements / 2)) same-rows) in
-                kept .more (plus (plus u (ahead (start-block c gs nothing) (backwards rows))) N) (plus u (plus (outside-components type (block-counts rows)) (reached-counts (inner (backwards rows))))) (omega arith)
+              | [] ↦ λ e.
+                  let lo = outside-le type (open-counts (backwards rows) []) (block-counts rows) (le-trans (open-counts (backwards rows) []) (plus (rows-counts rows) (pair (rows-counts rows .elements / 2))) (block-counts rows) none (block-share rows)) in
+                  resum y (y + 0) (omega arith) (kept .more (plus u (ahead (start-block c gs nothing) (backwards rows))) (plus u (plus (outside-components type (block-counts rows)) (reached-counts (inner (backwards rows))))) (omega arith) q)
+              | w ∷ rs ↦ λ e.
+                  let yes : eqb type 0 ≡ false = elim (cases-bool (eqb type 0)) [ inl t ↦ (let z : (w ∷ rs) ≡ [] = sym e ∙ n .component t in let o : _≡_ {A = ℕ} 0 1 = cc in absurd (omega arith)) | inr t ↦ t ] in
+                  let fw : 2 * length (v .rewrites) + length (v .members) ≤ rows-counts rows .elements = n .few in
+                  let fw′ : 2 * length (w ∷ rs) + length (v .members) ≤ rows-counts rows .elements = subst (λ (z : List Rewrite). 2 * length z + length (v .members) ≤ rows-counts rows .elements) e fw in
+                  let fw″ : 2 * length (w ∷ rs) ≤ rows-counts rows .elements = omega arith in
+                  let a = start .growing in let b = n .growing in
+                  let step = kept .relists hv f k w rs f-low (omega arith) type yes (subst (Ok type) (sym same-rows) ok) (λ x l. n .two x (subst (λ (z : List Rewrite). Lists z x) (sym e) l)) (subst (λ (z : List InstructionV). 2 * length (w ∷ rs) ≤ rows-counts z .elements) (sym same-rows) fw″) in
+                  let at : (z : Counts) → outside-components type z ≡ z = λ z. pick-false (eqb type 0) no-counts z yes in
+                  let l₁ = le-same (outside-components type (open-counts (backwards rows) [])) (open-counts (backwards rows) []) (at (open-counts (backwards rows) [])) in
+                  let l₂ = le-same (block-counts rows) (outside-components type (block-counts rows)) (sym (at (block-counts rows))) in
+                  let l₃ = block-listed rows (omega arith) in
+                  let N = new-list (length (rows-at hv f k) + rows-counts (rows-at hv f k) .elements / 2) in
+                  let l₄ : Le N (new-list (length rows + rows-counts rows .elements / 2)) = le-same N (new-list (length rows + rows-counts rows .elements / 2)) (ap (λ (z : List InstructionV). new-list (length z + rows-counts z .elements / 2)) same-rows) in
+                  kept .more (plus (plus u (ahead (start-block c gs nothing) (backwards rows))) N) (plus u (plus (outside-components type (block-counts rows)) (reached-counts (inner (backwards rows))))) (omega arith)
                   (subst (λ (z : Hir). R h₀ z (v .report) (y + p .list (rewritten (w ∷ rs) (rows-at hv f k))) (plus (plus u (ahead (start-block c gs nothing) (backwards rows))) N)) (ap (λ (z : List Rewrite). eliminated m (with-list hv f k (rewritten z (rows-at hv f k))) f) (sym e))
-                    (subst (λ (z : Report). R h₀ (eliminated m (with-list hv f k (rewritten (w ∷ rs) (rows-at hv f k))) f) z (y + p .list (rewritten (w ∷ rs) (rows-at hv f k))) (plus (plus u (ahead (start-block c gs nothing) (backwards rows))) N)) (add-none (v .report)) (kept .then q step))) ]) refl
+                  (subst (λ (z : Report). R h₀ (eliminated m (with-list hv f k (rewritten (w ∷ rs) (rows-at hv f k))) f) z (y + p .list (rewritten (w ∷ rs) (rows-at hv f k))) (plus (plus u (ahead (start-block c gs nothing) (backwards rows))) N)) (add-none (v .report)) (kept .then q step)))
+            ]) refl
 
     -- what the blocks still to be walked may take
     abbrev to-come : ℕ → Hir → Counts
@@ -574,13 +615,13 @@ module _ (m : Meaning) (lawful : Lawful m) (n₀ : ℕ) (p : Price) (Ok : ℕ �
       passed-block = finish (w .hir) (w .globals) k b short (after-block w k) ended
 
       block-related : (y : ℕ) (u : Counts) → R h₀ (w .hir) (w .report) y u
-        → R h₀ (walk-block m (outline-jsx-impl d m) f k w .hir) (walk-block m (outline-jsx-impl d m) f k w .report) (y + block-takes p (outline-jsx-impl d m) (takes p d m) f k w) (plus u (plus (outside-components (function-at (w .hir) f .type) (block-counts (rows-at (w .hir) f k))) (reached-counts (inner (backwards (rows-at (w .hir) f k))))))
+          → R h₀ (walk-block m (outline-jsx-impl d m) f k w .hir) (walk-block m (outline-jsx-impl d m) f k w .report) (y + block-takes p (outline-jsx-impl d m) (takes p d m) f k w) (plus u (plus (outside-components (function-at (w .hir) f .type) (block-counts (rows-at (w .hir) f k))) (reached-counts (inner (backwards (rows-at (w .hir) f k))))))
       block-related y u q =
           let back = going-back p (outline-jsx-impl d m) (takes p d m) (function-at (w .hir) f .type) (start-block (w .hir) (w .globals) (w .report)) (backwards (rows-at (w .hir) f k)) in
           let list = relisting p (after-block w k .rewrites) (rows-at (after-block w k .hir) f k) in
           resum (y + back + list) (y + (back + list)) (omega arith)
-            (finish-related (w .hir) (w .globals) k b short (after-block w k) ended (y + back) u
-              (walk-related (w .hir) (w .globals) k b short (start-block (w .hir) (w .globals) (w .report)) (backwards (rows-at (w .hir) f k)) [] whole begun y u q))
+          (finish-related (w .hir) (w .globals) k b short (after-block w k) ended (y + back) u
+          (walk-related (w .hir) (w .globals) k b short (start-block (w .hir) (w .globals) (w .report)) (backwards (rows-at (w .hir) f k)) [] whole begun y u q))
 
       -- a block's share and what comes after it
       block-share-of : Le (plus (plus (outside-components (function-at (w .hir) f .type) (block-counts (rows-at (w .hir) f k))) (reached-counts (inner (backwards (rows-at (w .hir) f k))))) (to-come (suc k) (finished m f k (after-block w k)))) (to-come k (w .hir))
@@ -605,7 +646,7 @@ module _ (m : Meaning) (lawful : Lawful m) (n₀ : ℕ) (p : Price) (Ok : ℕ �
     blocks-between (suc n) w k b e = subst (Between (walk-blocks (suc n) m (outline-jsx-impl d m) f k w .hir) (walk-blocks (suc n) m (outline-jsx-impl d m) f k w .globals)) (omega arith) (blocks-between n (walk-block m (outline-jsx-impl d m) f k w) (suc k) (passed-block w k b (omega arith) .between) (omega arith))
 
     blocks-related : (n : ℕ) (w : Walk) (k : ℕ) → Between (w .hir) (w .globals) k → k + n ≡ length bs₀ → (y : ℕ) (u : Counts) → R h₀ (w .hir) (w .report) y u
-      → R h₀ (walk-blocks n m (outline-jsx-impl d m) f k w .hir) (walk-blocks n m (outline-jsx-impl d m) f k w .report) (y + blocks-take n p m (outline-jsx-impl d m) (takes p d m) f k w) (plus u (to-come k (w .hir)))
+        → R h₀ (walk-blocks n m (outline-jsx-impl d m) f k w .hir) (walk-blocks n m (outline-jsx-impl d m) f k w .report) (y + blocks-take n p m (outline-jsx-impl d m) (takes p d m) f k w) (plus u (to-come k (w .hir)))
     blocks-related zero w k b e y u q = resum y (y + 0) (omega arith) (kept .more u (plus u (to-come k (w .hir))) (omega arith) q)
     blocks-related (suc n) w k b e y u q =
         let s : k < length bs₀ = omega arith in
@@ -615,13 +656,19 @@ module _ (m : Meaning) (lawful : Lawful m) (n₀ : ℕ) (p : Price) (Ok : ℕ �
         let c = plus (outside-components (function-at (w .hir) f .type) (block-counts (rows-at (w .hir) f k))) (reached-counts (inner (backwards (rows-at (w .hir) f k)))) in
         let l = block-share-of w k b s in
         kept .more (plus (plus u c) (to-come (suc k) (v .hir))) (plus u (to-come k (w .hir))) (omega arith)
-          (resum (y + t + r) (y + (t + r)) (omega arith) (blocks-related n v (suc k) (passed-block w k b s .between) (omega arith) (y + t) (plus u c) (block-related w k b s y u q)))
+        (resum (y + t + r) (y + (t + r)) (omega arith) (blocks-related n v (suc k) (passed-block w k b s .between) (omega arith) (y + t) (plus u c) (block-related w k b s y u q)))
 
     first-between : (gs : List InstructionV) → ((i : InstructionV) → Lists gs i → Load-ok (function-at h₀ f .type) i) → Between h₀ gs k₀
     first-between gs loads = record {
-        from = omega arith; growing = omega arith; part = λ j l. sub-refl (block-rows bs₀ j); len = refl; type = refl; loads = loads;
-        clean = record { distinct = fine₀ .distinct .1; apart = fine₀ .distinct .0; same = λ g q. refl; reached = λ g q. q };
-        untouched = λ g o l. refl }
+      from = omega arith;
+      growing = omega arith;
+      part = λ j l. sub-refl (block-rows bs₀ j);
+      len = refl;
+      type = refl;
+      loads = loads;
+      clean = record { distinct = fine₀ .distinct .1; apart = fine₀ .distinct .0; same = λ g q. refl; reached = λ g q. q };
+      untouched = λ g o l. refl;
+    }
 
     -- what is left from block k on, as it then stands
     rest-between : (s : Hir) (gs : List InstructionV) (k : ℕ) → Between s gs k → Rest d s f k
@@ -632,10 +679,11 @@ module _ (m : Meaning) (lawful : Lawful m) (n₀ : ℕ) (p : Price) (Ok : ℕ �
           low = f-low;
           distinct = (subst (λ (l : List ℕ). Out f l) (sym same-reach) (b .clean .apart), subst Distinct (sym same-reach) (b .clean .distinct));
           each = λ g q.
-            let q′ = subst (λ (l : List ℕ). In g l) same-reach q in
-            let e = fine₀ .each g (b .clean .reached g q′) in
-            (e .0, subst Ok-function (sym (b .clean .same g q′)) (e .1));
-          own = λ j l. (let fr = b .from in subst (λ z. Ok z (block-rows (function-at s f .blocks) j)) (sym (b .type)) (kept .ok-sub (b .part j l) (fine₀ .own j (omega arith)))) }
+              let q′ = subst (λ (l : List ℕ). In g l) same-reach q in
+              let e = fine₀ .each g (b .clean .reached g q′) in
+              (e .0, subst Ok-function (sym (b .clean .same g q′)) (e .1));
+          own = λ j l. (let fr = b .from in subst (λ z. Ok z (block-rows (function-at s f .blocks) j)) (sym (b .type)) (kept .ok-sub (b .part j l) (fine₀ .own j (omega arith))));
+        }
 
   walk-result : (d : ℕ) → ((h : Hir) (x : ℕ) → n₀ ≤ length (h .functions) → Fine d h x → Result d h x) → (h : Hir) (f : ℕ) → n₀ ≤ length (h .functions) → Fine (suc d) h f → Result (suc d) h f
   walk-result d ih h f big fine =
@@ -647,7 +695,8 @@ module _ (m : Meaning) (lawful : Lawful m) (n₀ : ℕ) (p : Price) (Ok : ℕ �
       record {
         related = kept .more (plus no-counts (rest-counts d h f 0)) (walk-counts (suc d) h f) (omega arith) (resum (0 + t) t (omega arith) (blocks-related d ih h f 0 big rest n (start-block h [] nothing) 0 first (omega arith) 0 no-counts (kept .same h)));
         growing = b .growing;
-        untouched = b .untouched }
+        untouched = b .untouched;
+      }
 
   pub walk-kept : (d : ℕ) (h : Hir) (x : ℕ) → n₀ ≤ length (h .functions) → Fine d h x → Result d h x
   walk-kept zero h x big fine = record { related = kept .same h; growing = omega arith; untouched = λ g o l. refl }
@@ -689,7 +738,8 @@ module _ (m : Meaning) (lawful : Lawful m) (n₀ : ℕ) (p : Price) (Ok : ℕ �
           related = kept .more (plus no-counts c) c (omega arith) (resum (0 + t) t (omega arith) (block-related d ih h f k big rest began k first short 0 no-counts begin));
           next = rest-between d ih h f k big rest (went .hir) (went .globals) (suc k) b;
           next-loads = λ i l. subst (λ z. Load-ok z i) (sym (b .type)) (b .loads i l);
-          len = b .len }
+          len = b .len;
+        }
 
   -- The rows of a block, whatever block they are of.
   module _ (d type : ℕ) where
@@ -724,15 +774,18 @@ module _ (m : Meaning) (lawful : Lawful m) (n₀ : ℕ) (p : Price) (Ok : ℕ �
 
     -- what stays fine when functions still to be reached stay
     fine-same : (w v : Walk) (todo : List InstructionV) → length (w .hir .functions) ≤ length (v .hir .functions) → ((g : ℕ) → In g (Ahead (w .hir) todo) → function-at (v .hir) g ≡ function-at (w .hir) g)
-      → n₀ ≤ length (w .hir .functions) → Distinct (Ahead (w .hir) todo) → ((g : ℕ) → In g (Ahead (w .hir) todo) → (g < n₀) × Ok-function (function-at (w .hir) g))
-      → Ok type (backwards todo ++ v .members) → All-elements (v .members) → ((i : InstructionV) → Lists (v .globals) i → Load-ok type i) → Rows-fine v todo
+        → n₀ ≤ length (w .hir .functions) → Distinct (Ahead (w .hir) todo) → ((g : ℕ) → In g (Ahead (w .hir) todo) → (g < n₀) × Ok-function (function-at (w .hir) g))
+        → Ok type (backwards todo ++ v .members) → All-elements (v .members) → ((i : InstructionV) → Lists (v .globals) i → Load-ok type i) → Rows-fine v todo
     fine-same w v todo l e big distinct each own jsx loads =
         let s = ahead-same (w .hir) (v .hir) todo e in
         record {
           big = omega arith;
           distinct = subst Distinct (sym s) distinct;
           each = λ g q. (let q′ = subst (λ (x : List ℕ). In g x) s q in let a = each g q′ in (a .0, subst Ok-function (sym (e g q′)) (a .1)));
-          own = own; jsx = jsx; loads = loads }
+          own = own;
+          jsx = jsx;
+          loads = loads;
+        }
 
     ahead-later : (h : Hir) (i : InstructionV) (todo : List InstructionV) → is-function i ≡ false → Ahead h (i ∷ todo) ≡ Ahead h todo
     ahead-later h i todo n = ap (gathered (on-walk d h)) (pick-false (is-function i) (i .function ∷ inner todo) (inner todo) n)
@@ -755,9 +808,9 @@ module _ (m : Meaning) (lawful : Lawful m) (n₀ : ℕ) (p : Price) (Ok : ℕ �
 
       -- rows other than inner functions: the store may grow, but keeps its functions
       plain : (v : Walk) (n : is-function i ≡ false) (t : ℕ) (paid : Counts) (r : Report) → R (w .hir) (v .hir) r t paid
-        → length (w .hir .functions) ≤ length (v .hir .functions) → ((g : ℕ) → g < length (w .hir .functions) → function-at (v .hir) g ≡ function-at (w .hir) g)
-        → Le (plus paid (outside-components type (open-counts todo (v .members)))) (outside-components type (open-counts (i ∷ todo) (w .members)))
-        → Ok type (backwards todo ++ v .members) → All-elements (v .members) → ((j : InstructionV) → Lists (v .globals) j → Load-ok type j) → Row-kept v todo (ahead-of w (i ∷ todo)) t (w .hir)
+          → length (w .hir .functions) ≤ length (v .hir .functions) → ((g : ℕ) → g < length (w .hir .functions) → function-at (v .hir) g ≡ function-at (w .hir) g)
+          → Le (plus paid (outside-components type (open-counts todo (v .members)))) (outside-components type (open-counts (i ∷ todo) (w .members)))
+          → Ok type (backwards todo ++ v .members) → All-elements (v .members) → ((j : InstructionV) → Lists (v .globals) j → Load-ok type j) → Row-kept v todo (ahead-of w (i ∷ todo)) t (w .hir)
       plain v n t paid r q l e le own jsx loads =
           let s = ahead-later (w .hir) i todo n in
           let in-s : (g : ℕ) → In g (Ahead (w .hir) todo) → In g (Ahead (w .hir) (i ∷ todo)) = λ g x. subst (λ (z : List ℕ). In g z) (sym s) x in
@@ -767,8 +820,12 @@ module _ (m : Meaning) (lawful : Lawful m) (n₀ : ℕ) (p : Price) (Ok : ℕ �
           let c₁ = le-same (tally (λ g. function-counts (function-at (v .hir) g)) (Ahead (v .hir) todo)) (tally (λ g. function-counts (function-at (w .hir) g)) (Ahead (w .hir) todo)) (counts-same (w .hir) (v .hir) todo same) in
           let c₂ = le-same (tally (λ g. function-counts (function-at (w .hir) g)) (Ahead (w .hir) todo)) (tally (λ g. function-counts (function-at (w .hir) g)) (Ahead (w .hir) (i ∷ todo))) (ap (tally (λ g. function-counts (function-at (w .hir) g))) (sym s)) in
           record {
-            report = r; paid = paid; related = q; within = omega arith;
-            fine = fine-same w v todo l same big (subst Distinct s (a .distinct)) each own jsx loads }
+            report = r;
+            paid = paid;
+            related = q;
+            within = omega arith;
+            fine = fine-same w v todo l same big (subst Distinct s (a .distinct)) each own jsx loads;
+          }
 
       here-listed : Lists (backwards (i ∷ todo) ++ w .members) i
       here-listed = lists-left (w .members) (lists-right (backwards todo) here)
@@ -776,39 +833,43 @@ module _ (m : Meaning) (lawful : Lawful m) (n₀ : ℕ) (p : Price) (Ok : ℕ �
       pub row-kept : Row-kept (passed (outline-jsx-impl d m) type w i) todo (ahead-of w (i ∷ todo)) (passing p (takes p d m) type w i) (w .hir)
       row-kept = passing-ways (λ v t. Row-kept v todo (ahead-of w (i ∷ todo)) t (w .hir)) p (outline-jsx-impl d m) (takes p d m) type w i
           (λ g. plain (with-load w i) (ap (λ (x : ℕ). eqb x 31) (eqb-true (i .kind) 29 g)) 0 no-counts nothing (kept .same (w .hir)) (omega arith) (λ g′ l. refl)
-            (let lo = outside-le type (open-counts todo (w .members)) (open-counts (i ∷ todo) (w .members)) (omega arith) in omega arith)
-            own-later (a .jsx) (λ j l. elim (lists-head l) [ inl e ↦ subst (Load-ok type) (sym e) (kept .ok-load type (backwards (i ∷ todo) ++ w .members) i (a .own) here-listed g) | inr k ↦ a .loads j k ]))
+          (let lo = outside-le type (open-counts todo (w .members)) (open-counts (i ∷ todo) (w .members)) (omega arith) in omega arith)
+          own-later (a .jsx) (λ j l. elim (lists-head l) [ inl e ↦ subst (Load-ok type) (sym e) (kept .ok-load type (backwards (i ∷ todo) ++ w .members) i (a .own) here-listed g) | inr k ↦ a .loads j k ]))
           (λ _ h.
-            let x = i .function in
-            let mine = on-walk d (w .hir) x in
-            let s : Ahead (w .hir) (i ∷ todo) ≡ mine ++ Ahead (w .hir) todo = ap (gathered (on-walk d (w .hir))) (pick-true (is-function i) (x ∷ inner todo) (inner todo) h) in
-            let dist = subst Distinct s (a .distinct) in
-            let each : (g : ℕ) → In g (mine ++ Ahead (w .hir) todo) → (g < n₀) × Ok-function (function-at (w .hir) g) = λ g q. a .each g (subst (λ (z : List ℕ). In g z) (sym s) q) in
-            let res = walk-kept d (w .hir) x (a .big) (record { distinct = distinct-left mine (Ahead (w .hir) todo) dist; each = λ g q. each g (in-left g mine (Ahead (w .hir) todo) q) }) in
-            let v = with-outcome w (outline-jsx-impl d m (w .hir) x) in
-            let big = a .big in
-            let same : (g : ℕ) → In g (Ahead (w .hir) todo) → function-at (v .hir) g ≡ function-at (w .hir) g = λ g q. res .untouched g (out-if g mine (λ y. in-out g (Ahead (w .hir) todo) q (distinct-apart g mine (Ahead (w .hir) todo) dist y))) (let y = each g (in-right g mine (Ahead (w .hir) todo) q) .0 in omega arith) in
-            let cw : ℕ → Counts = λ g. function-counts (function-at (w .hir) g) in
-            let c₁ = le-same (tally (λ g. function-counts (function-at (v .hir) g)) (Ahead (v .hir) todo)) (tally cw (Ahead (w .hir) todo)) (counts-same (w .hir) (v .hir) todo same) in
-            let c₂ = tally-++ cw mine (Ahead (w .hir) todo) .0 in
-            let c₃ = le-same (tally cw (mine ++ Ahead (w .hir) todo)) (tally cw (Ahead (w .hir) (i ∷ todo))) (ap (tally cw) (sym s)) in
-            let lo = outside-le type (open-counts todo (w .members)) (open-counts (i ∷ todo) (w .members)) (omega arith) in
-            record {
-              report = outline-jsx-impl d m (w .hir) x .report; paid = walk-counts d (w .hir) x; related = res .related; within = omega arith;
-              fine = fine-same w v todo (res .growing) same big (distinct-right mine (Ahead (w .hir) todo) dist) (λ g q. each g (in-right g mine (Ahead (w .hir) todo) q)) own-later (a .jsx) (a .loads) })
+          let x = i .function in
+          let mine = on-walk d (w .hir) x in
+          let s : Ahead (w .hir) (i ∷ todo) ≡ mine ++ Ahead (w .hir) todo = ap (gathered (on-walk d (w .hir))) (pick-true (is-function i) (x ∷ inner todo) (inner todo) h) in
+          let dist = subst Distinct s (a .distinct) in
+          let each : (g : ℕ) → In g (mine ++ Ahead (w .hir) todo) → (g < n₀) × Ok-function (function-at (w .hir) g) = λ g q. a .each g (subst (λ (z : List ℕ). In g z) (sym s) q) in
+          let res = walk-kept d (w .hir) x (a .big) (record { distinct = distinct-left mine (Ahead (w .hir) todo) dist; each = λ g q. each g (in-left g mine (Ahead (w .hir) todo) q) }) in
+          let v = with-outcome w (outline-jsx-impl d m (w .hir) x) in
+          let big = a .big in
+          let same : (g : ℕ) → In g (Ahead (w .hir) todo) → function-at (v .hir) g ≡ function-at (w .hir) g = λ g q. res .untouched g (out-if g mine (λ y. in-out g (Ahead (w .hir) todo) q (distinct-apart g mine (Ahead (w .hir) todo) dist y))) (let y = each g (in-right g mine (Ahead (w .hir) todo) q) .0 in omega arith) in
+          let cw : ℕ → Counts = λ g. function-counts (function-at (w .hir) g) in
+          let c₁ = le-same (tally (λ g. function-counts (function-at (v .hir) g)) (Ahead (v .hir) todo)) (tally cw (Ahead (w .hir) todo)) (counts-same (w .hir) (v .hir) todo same) in
+          let c₂ = tally-++ cw mine (Ahead (w .hir) todo) .0 in
+          let c₃ = le-same (tally cw (mine ++ Ahead (w .hir) todo)) (tally cw (Ahead (w .hir) (i ∷ todo))) (ap (tally cw) (sym s)) in
+          let lo = outside-le type (open-counts todo (w .members)) (open-counts (i ∷ todo) (w .members)) (omega arith) in
+          record {
+            report = outline-jsx-impl d m (w .hir) x .report;
+            paid = walk-counts d (w .hir) x;
+            related = res .related;
+            within = omega arith;
+            fine = fine-same w v todo (res .growing) same big (distinct-right mine (Ahead (w .hir) todo) dist) (λ g q. each g (in-right g mine (Ahead (w .hir) todo) q)) own-later (a .jsx) (a .loads);
+          })
           (λ _ h j _. plain (joined w i) h 0 no-counts nothing (kept .same (w .hir)) (omega arith) (λ g′ l. refl)
-            (let lo = outside-le type (open-counts todo (i ∷ w .members)) (open-counts (i ∷ todo) (w .members)) (omega arith) in omega arith)
-            own-joined (λ k l. elim (lists-head l) [ inl e ↦ subst (λ (z : InstructionV). is-element z ≡ true) (sym e) j | inr l′ ↦ a .jsx k l′ ]) (a .loads))
+          (let lo = outside-le type (open-counts todo (i ∷ w .members)) (open-counts (i ∷ todo) (w .members)) (omega arith) in omega arith)
+          own-joined (λ k l. elim (lists-head l) [ inl e ↦ subst (λ (z : InstructionV). is-element z ≡ true) (sym e) j | inr l′ ↦ a .jsx k l′ ]) (a .loads))
           (λ _ h j _.
-            let ms = w .members in
-            let o = process-jsx-group type (w .globals) ms (w .hir) in
-            plain (joined (process-and-outline-jsx type w) i) h (closing p type w) (outside-components type (closing-counts ms)) (o .report) (close-related type (w .globals) ms (w .hir) (a .loads) (a .jsx) own-members)
-              (close-onward type (w .globals) ms (w .hir) .functions) (λ g′ l. close-keeps type (w .globals) ms (w .hir) g′ l)
-              (outside-two type (closing-counts ms) (open-counts todo (i ∷ [])) (open-counts (i ∷ todo) ms) (open-close todo ms i j (a .jsx)))
-              own-first (λ k l. elim (lists-head l) [ inl e ↦ subst (λ (z : InstructionV). is-element z ≡ true) (sym e) j | inr l′ ↦ lists-none l′ ]) (a .loads))
+          let ms = w .members in
+          let o = process-jsx-group type (w .globals) ms (w .hir) in
+          plain (joined (process-and-outline-jsx type w) i) h (closing p type w) (outside-components type (closing-counts ms)) (o .report) (close-related type (w .globals) ms (w .hir) (a .loads) (a .jsx) own-members)
+          (close-onward type (w .globals) ms (w .hir) .functions) (λ g′ l. close-keeps type (w .globals) ms (w .hir) g′ l)
+          (outside-two type (closing-counts ms) (open-counts todo (i ∷ [])) (open-counts (i ∷ todo) ms) (open-close todo ms i j (a .jsx)))
+          own-first (λ k l. elim (lists-head l) [ inl e ↦ subst (λ (z : InstructionV). is-element z ≡ true) (sym e) j | inr l′ ↦ lists-none l′ ]) (a .loads))
           (λ _ h e. plain w h 0 no-counts nothing (kept .same (w .hir)) (omega arith) (λ g′ l. refl)
-            (let lo = outside-le type (open-counts todo (w .members)) (open-counts (i ∷ todo) (w .members)) (omega arith) in omega arith)
-            own-later (a .jsx) (a .loads))
+          (let lo = outside-le type (open-counts todo (w .members)) (open-counts (i ∷ todo) (w .members)) (omega arith) in omega arith)
+          own-later (a .jsx) (a .loads))
 
     -- at the block's start the open group closes
     pub record Last-kept (w : Walk) : Type 0 where

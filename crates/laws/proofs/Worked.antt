@@ -32,8 +32,9 @@ rows-formed =
 
 walk-formed : Walk-formed depth passed-on 0
 walk-formed g q = elim (or-cases (eqb g 0) false q) [
-    inl e ↦ subst (λ z. (i : InstructionV) → Lists (function-rows (function-at passed-on z)) i → Formed i) (sym (eqb-true g 0 e)) rows-formed
-  | inr e ↦ absurd (both-ways false refl e) ]
+  | inl e ↦ subst (λ z. (i : InstructionV) → Lists (function-rows (function-at passed-on z)) i → Formed i) (sym (eqb-true g 0 e)) rows-formed
+  | inr e ↦ absurd (both-ways false refl e)
+]
 
 declared : (x : ℕ) → x < length (passed-on .identifiers) → identifier-at passed-on x .declaration < 2 ^ 32
 declared zero l = omega arith
@@ -47,10 +48,25 @@ declared (suc (suc (suc (suc (suc (suc x)))))) l = absurd (omega arith)
 pub worked-allowances : Worked-allowances
 unfolding numeral
 worked-allowances = record {
-    counts = refl; identifiers = refl; identifiers-taken = refl; instructions = refl; instructions-taken = refl;
-    numbers-allowance = refl; numbers-taken = refl; places-allowance = refl; places-taken = refl; text = refl; text-taken = refl;
-    formed = walk-formed;
-    limits = record {
-      identifiers = omega arith; instructions = omega arith; functions = omega arith; counter = omega arith; mark = omega arith;
-      declarations = declared;
-      borne = record { names = Tile ∷ []; few = omega arith; all = λ n h. h } } }
+  counts = refl;
+  identifiers = refl;
+  identifiers-taken = refl;
+  instructions = refl;
+  instructions-taken = refl;
+  numbers-allowance = refl;
+  numbers-taken = refl;
+  places-allowance = refl;
+  places-taken = refl;
+  text = refl;
+  text-taken = refl;
+  formed = walk-formed;
+  limits = record {
+    identifiers = omega arith;
+    instructions = omega arith;
+    functions = omega arith;
+    counter = omega arith;
+    mark = omega arith;
+    declarations = declared;
+    borne = record { names = Tile ∷ []; few = omega arith; all = λ n h. h };
+  };
+}

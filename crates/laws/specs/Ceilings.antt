@@ -55,4 +55,4 @@ Mark-below = Of-every-walk (λ m h f. Within-limits h f → outline-jsx m h f .h
 -- since it rises by the tags taken and the names that they passed over, all of which identifiers or rows bear in the end
 abbrev pub Mark-rises : Type 0
 Mark-rises = (m : Meaning) (h : Hir) (f : ℕ) → Few-borne h
-  → outline-jsx m h f .hir .mark ≤ h .mark + (outline-jsx m h f .report .functions + outline-jsx m h f .report .abandoned) + (length (outline-jsx m h f .hir .identifiers) + outline-jsx m h f .hir .used-rows)
+    → outline-jsx m h f .hir .mark ≤ h .mark + (outline-jsx m h f .report .functions + outline-jsx m h f .report .abandoned) + (length (outline-jsx m h f .hir .identifiers) + outline-jsx m h f .hir .used-rows)

@@ -55,7 +55,7 @@ after-block m d h f k globals r = walk-block m (outline-jsx-impl d m) f k (start
 -- it is within its share; the rest is still accepted, and the function has as many blocks
 pub record Block-shared (m : Meaning) (d : ℕ) (h : Hir) (f k : ℕ) (globals : List InstructionV) (r : Report) : Type 0 where
   pub share : Within-share h (rest-counts d h f k) (after-block m d h f k globals r .hir) (rest-counts d (after-block m d h f k globals r .hir) f (suc k))
-    (block-takes numbers (outline-jsx-impl d m) (takes numbers d m) f k (start-block h globals r)) (block-takes places (outline-jsx-impl d m) (takes places d m) f k (start-block h globals r))
+      (block-takes numbers (outline-jsx-impl d m) (takes numbers d m) f k (start-block h globals r)) (block-takes places (outline-jsx-impl d m) (takes places d m) f k (start-block h globals r))
   pub next : Still-accepted d (after-block m d h f k globals r .hir) f (suc k) (after-block m d h f k globals r .globals)
   pub len : length (function-at (after-block m d h f k globals r .hir) f .blocks) ≡ length (function-at h f .blocks)
 
@@ -77,8 +77,8 @@ pub record Rows-still-accepted (d : ℕ) (w : Walk) (todo : List InstructionV) :
 -- passing a row is within its share, and the rest is still accepted
 pub record Row-shared (m : Meaning) (d type : ℕ) (w : Walk) (i : InstructionV) (todo : List InstructionV) : Type 0 where
   pub share : Within-share (w .hir) (ahead-counts d (w .hir) type (w .members) (i ∷ todo))
-    (passed (outline-jsx-impl d m) type w i .hir) (ahead-counts d (passed (outline-jsx-impl d m) type w i .hir) type (passed (outline-jsx-impl d m) type w i .members) todo)
-    (passing numbers (takes numbers d m) type w i) (passing places (takes places d m) type w i)
+      (passed (outline-jsx-impl d m) type w i .hir) (ahead-counts d (passed (outline-jsx-impl d m) type w i .hir) type (passed (outline-jsx-impl d m) type w i .members) todo)
+      (passing numbers (takes numbers d m) type w i) (passing places (takes places d m) type w i)
   pub next : Rows-still-accepted d (passed (outline-jsx-impl d m) type w i) todo
 
 -- at the block's start the open group closes, within what is left

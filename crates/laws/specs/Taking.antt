@@ -23,12 +23,15 @@ closing p type w = p .group (w .hir) (process-jsx-group type (w .globals) (w .me
 abbrev pub passing : Price → (Hir → ℕ → ℕ) → ℕ → Walk → InstructionV → ℕ
 passing p inside type w i =
     elim (is-global i) [
-      true ↦ 0
-    | false ↦ elim (is-function i) [
-        true ↦ inside (w .hir) (i .function)
-      | false ↦ elim (is-element i) [
-          true ↦ elim (within (i .result .identifier) (children (w .members))) [ true ↦ 0 | false ↦ closing p type w ]
-        | false ↦ 0 ] ] ]
+      | true ↦ 0
+      | false ↦ elim (is-function i) [
+        | true ↦ inside (w .hir) (i .function)
+        | false ↦ elim (is-element i) [
+          | true ↦ elim (within (i .result .identifier) (children (w .members))) [ true ↦ 0 | false ↦ closing p type w ]
+          | false ↦ 0
+        ]
+      ]
+    ]
 
 -- passing the rows from the last to the first; at the block's start the open group closes too
 abbrev pub going-back : Price → (Hir → ℕ → Outcome) → (Hir → ℕ → ℕ) → ℕ → Walk → List InstructionV → ℕ

@@ -20,7 +20,11 @@ pub fn listed_of(elements: u64, rows: u64) -> u64
     requires { ⌜ elements < 2 ^ 40 ⌝ ∗ ⌜ rows < 2 ^ 40 ⌝ }
     ensures { λ r. ⌜ r ≡ listed-of elements rows ⌝ }
 {
-    if 2 <= elements { rows + elements / 2 } else { 0 }
+    if 2 <= elements {
+        rows + elements / 2
+    } else {
+        0
+    }
 }
 
 // Each entry takes an identifier, and each group four more.
