@@ -1,2 +1,5 @@
-pub mod Kinds
 pub mod Used
+pub mod Tables
+pub mod View
+pub mod WellFormed
+pub mod Frame

@@ -1,5 +1,5 @@
 ghost use mathlib.Core.Path.{_≡_};
-ghost use Rattle.hir.specs.Kinds.{acts};
+ghost use Rattle.rules.specs.Kinds.{acts};
 
 // Does a row of this kind act, so that it must stay even if nothing reads what it writes?
 pub fn is_acting(kind: u8) -> bool

@@ -1,0 +1,5 @@
+pub mod Runs
+pub mod Pairs
+pub mod Same
+pub mod Growth
+pub mod Frames
