@@ -3,3 +3,5 @@ pub mod Pairs
 pub mod Same
 pub mod Growth
 pub mod Frames
+pub mod Laws
+pub mod Relisting

@@ -3,3 +3,4 @@ pub mod Tables
 pub mod View
 pub mod WellFormed
 pub mod Frame
+pub mod Lists
