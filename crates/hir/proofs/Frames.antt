@@ -13,7 +13,7 @@ use Rattle.hir.specs.declared.rows.Place.{Place}
 use Rattle.hir.specs.declared.rows.Instruction.{Instruction}
 use Rattle.hir.specs.declared.rows.BasicBlock.{BasicBlock}
 use Rattle.hir.specs.declared.rows.HirFunction.{HirFunction}
-use Rattle.hir.specs.Tables.{Tables, Held, with-identifier, with-place, with-instruction, with-block, with-function, with-text, with-places, with-numbers, with-tag, over-identifier, over-block}
+use Rattle.hir.specs.Tables.{Tables, Held, hold-numbers, with-identifier, with-place, with-instruction, with-block, with-function, with-text, with-places, with-numbers, with-tag, over-identifier, over-block}
 use Rattle.hir.specs.View.{Rows, rows, null-identifier, null-block}
 use Rattle.hir.specs.Frame.{Onward, All-onward, Kept, onwards, whole, declaration-of, without-list, nothing-of}
 use Rattle.hir.proofs.Runs.{drop-less}
@@ -114,6 +114,9 @@ module _ (t : Tables) where
 
   pub kept-over-block : (n : ℕ) (x : BasicBlock) → n < t .counts .blocks → t .counts .blocks ≤ length (t .blocks) → without-list x ≡ without-list (getD (t .blocks) n null-block) → Kept t (over-block t n x)
   kept-over-block n x h l e = onwards (record { text = same .text; identifiers = same .identifiers; places = same .places; instructions = same .instructions; numbers = same .numbers; blocks = onward-over without-list (t .counts .blocks) n (t .blocks) x null-block h l e; functions = same .functions })
+
+  pub kept-rewritten : (f : ℕ) (xs : List ℕ) → f + length xs ≤ t .counts .numbers → t .counts .numbers ≤ length (t .numbers) → Kept t (hold-numbers t (t .counts) (paste (t .numbers) f xs (length xs)))
+  kept-rewritten f xs h l = onwards (record { text = same .text; identifiers = same .identifiers; places = same .places; instructions = same .instructions; numbers = onward-rewritten (t .counts .numbers) f (t .numbers) xs h l; blocks = same .blocks; functions = same .functions })
 
 pub kept-then : {t u v : Tables} → Kept t u → Kept u v → Kept t v
 kept-then {t} {u} {v} (onwards a) (onwards b) = onwards (record {

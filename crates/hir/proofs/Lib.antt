@@ -5,3 +5,6 @@ pub mod Growth
 pub mod Frames
 pub mod Laws
 pub mod Relisting
+pub mod Listed
+pub mod Renaming
+pub mod Calls

@@ -4,3 +4,4 @@ pub mod View
 pub mod WellFormed
 pub mod Frame
 pub mod Lists
+pub mod Tags
