@@ -8,3 +8,4 @@ pub mod Relisting
 pub mod Listed
 pub mod Renaming
 pub mod Calls
+pub mod Seen

@@ -154,3 +154,9 @@ pub record Counted (t : Tables) : Type 0 where
 pub record Well-formed (t : Tables) : Type 0 where
   pub counted : Counted t
   pub sound : Sound (t .counts) (rows t)
+
+-- What reading rows and places needs of it; lists and blocks play no part.
+pub record Readable (t : Tables) : Type 0 where
+  pub counted : Counted t
+  pub places : All (Place-fits (t .counts)) (rows t .places)
+  pub instructions : All (Instruction-fits (t .counts)) (rows t .instructions)
