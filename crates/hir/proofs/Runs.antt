@@ -6,7 +6,9 @@ use Prim.Native.Nat.{ℕ, _+_, _-_, _<_, _≤_, min}
 use native.Mathlib.Omega.{arith}
 use lib.ListN.{length, take, drop, getD, set, length-take, length-drop, length-append, take-append-drop}
 use lib.Seq.{take-append-le, drop-append-le, take-at, drop-at, drop-drop, take-set-lt, take-set-le, drop-set-lt, drop-set-add, getD-take, length-take-le, take-length, paste, paste-zero, length-paste, drop-paste, take-paste}
-use Rattle.std.proofs.shelf.Lists.{getD-drop}
+use native.Mathlib.Numerals.{add-one}
+use Rattle.std.proofs.shelf.Lists.{getD-append-left, getD-drop, set-split}
+use Rattle.std.proofs.shelf.Edits.{paste-all, paste-paste}
 use Rattle.hir.specs.declared.rows.Run.{Run}
 use Rattle.hir.specs.Used.{in-run}
 use Rattle.hir.specs.WellFormed.{Run-fits, Clear}
@@ -111,3 +113,23 @@ clear-shorter a b n (inl z) h = inl z
 clear-shorter a b n (inr (inl z)) h = inr (inl (omega arith))
 clear-shorter a b n (inr (inr (inl l))) h = inr (inr (inl l))
 clear-shorter a b n (inr (inr (inr l))) h = inr (inr (inr (omega arith)))
+
+-- Rows pasted into a list: those before and after them stand; others right after them; one row more.
+
+pub getD-paste-before : {A : Type 0} (d : List A) (at : ℕ) (s : List A) (n j : ℕ) (z : A) → j < at → at ≤ length d → getD (paste d at s n) j z ≡ getD d j z
+getD-paste-before d at s n j z h l =
+    let e : length (take at d) ≡ at = length-take-le at d l in
+    getD-append-left (take at d ++ take n s) (drop (at + n) d) z j (simp length-append (omega arith))
+    ∙ getD-append-left (take at d) (take n s) z j (omega arith) ∙ getD-take at d j z h
+
+pub getD-paste-after : {A : Type 0} (d : List A) (at : ℕ) (s : List A) (n j : ℕ) (z : A) → at + n ≤ j → at ≤ length d → n ≤ length s → getD (paste d at s n) j z ≡ getD d j z
+getD-paste-after d at s n j z h l m =
+    let k : ℕ = j - (at + n) in
+    let e : j ≡ at + n + k = omega arith in
+    ap (λ v. getD (paste d at s n) v z) e ∙ sym (getD-drop (at + n) (paste d at s n) k z) ∙ ap (λ v. getD v k z) (drop-paste d at s n l m) ∙ getD-drop (at + n) d k z ∙ ap (λ v. getD d v z) (sym e)
+
+pub pasted-both : {A : Type 0} (d : List A) (at n : ℕ) (s t : List A) → n ≡ length s → at ≤ length d → paste (paste d at s n) (at + n) t (length t) ≡ paste d at (s ++ t) (length (s ++ t))
+pasted-both d at n s t e h = paste-paste d at s t n (length t) e refl h ∙ ap (paste d at (s ++ t)) (ap (λ v. v + length t) e ∙ sym (length-append s t))
+
+pub set-paste : {A : Type 0} (l : List A) (i : ℕ) (a : A) → i < length l → set l i a ≡ paste l i (a ∷ []) 1
+set-paste l i a h = rw (set-split l i a h, paste-all l i (a ∷ []) 1 refl, add-one)

@@ -1,15 +1,14 @@
 -- Numbers written in decimal: one digit, and one digit more.
 use mathlib.Core.Path.{_≡_, refl, sym, ap, _∙_}
 use mathlib.Core.List.{List, [], _∷_, _++_}
-use native.Mathlib.Numerals.{add-one}
 use native.Mathlib.Omega.{arith}
 use Prim.Native.Nat.{ℕ, suc, _+_, _/_, _%_, _^_, _<_, _≤_}
 use lib.ListN.{length, set, take, drop, length-append}
 use lib.Seq.{paste}
 use Rattle.std.specs.Written.{decimal}
 use Rattle.std.proofs.shelf.Decimals.{decimal-digit, decimal-step, length-decimal-le}
-use Rattle.std.proofs.shelf.Lists.{set-split}
-use Rattle.std.proofs.shelf.Edits.{paste-all, paste-paste, length-paste}
+use Rattle.std.proofs.shelf.Edits.{paste-paste, length-paste}
+use Rattle.hir.proofs.Runs.{set-paste}
 use Rattle.rules.specs.Names.{numeral}
 use Rattle.rules.proofs.Numerals.{numeral-decimal}
 
@@ -29,10 +28,7 @@ length-long n h l g = ap length (numeral-long n h l g) ∙ length-append (numera
 pub length-numeral-le : (n : ℕ) → n < 2 ^ 32 → length (numeral n) ≤ 10
 length-numeral-le n h = let e = ap length (numeral-decimal n (omega arith)) in omega (arith, length-decimal-le 10 n (omega arith) (omega arith) (omega arith))
 
--- one write is a paste of one byte
-set-paste : (l : List ℕ) (i a : ℕ) → i < length l → set l i a ≡ paste l i (a ∷ []) 1
-set-paste l i a h = rw (set-split l i a h, paste-all l i (a ∷ []) 1 refl, add-one)
-
+-- the last digit written
 pub put-short : (d : List ℕ) (at n : ℕ) → at < length d → n < 10 → n < 2 ^ 64 → set d at (48 + n) ≡ paste d at (numeral n) (length (numeral n))
 put-short d at n h l g = rw (numeral-short n l g) (set-paste d at (48 + n) h)
 

@@ -12,7 +12,7 @@ use Rattle.hir.specs.Tables.{Tables, tables, hold-text}
 use Rattle.hir.specs.View.{spelt, view}
 use Rattle.hir.specs.WellFormed.{Room, text-limit, Well-formed}
 use Rattle.names.specs.Made.{with-spare-text}
-use Rattle.names.proofs.Pasted.{pasted-both}
+use Rattle.hir.proofs.Runs.{pasted-both}
 use Rattle.names.proofs.Naming.{spelt-in, length-spelt, view-spare, well-spare}
 use Rattle.names.proofs.made.spell_renamed.Needs as need
 

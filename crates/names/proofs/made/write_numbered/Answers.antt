@@ -10,7 +10,7 @@ use Rattle.rules.specs.Names.{numeral}
 use Rattle.hir.specs.declared.rows.Name.{Name}
 use Rattle.hir.specs.declared.rows.Counts.{Counts}
 use Rattle.hir.specs.Tables.{tables, hold-text, more-text}
-use Rattle.names.proofs.Pasted.{pasted-both}
+use Rattle.hir.proofs.Runs.{pasted-both}
 use Rattle.names.proofs.made.write_numbered.Needs as need
 
 pub returns : need.returns

@@ -7,9 +7,8 @@ use lib.Seq.{paste, length-paste}
 use borrow.Author.Needs.{needs}
 use Rattle.std.proofs.shelf.Parts.{putMid-paste}
 use Rattle.rules.specs.Names.{numeral}
-use Rattle.hir.proofs.Runs.{take-written}
+use Rattle.hir.proofs.Runs.{pasted-both, take-written}
 use Rattle.names.proofs.Numbers.{length-numeral-le}
-use Rattle.names.proofs.Pasted.{pasted-both}
 use Rattle.tags.proofs.Spelling.{temp, tag-first, tag-later}
 use Rattle.tags.proofs.take.spell_tag.Needs as need
 
