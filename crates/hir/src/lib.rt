@@ -1,8 +1,10 @@
-//! The tables of a screen: the rows as plain data, and the store that holds them in lent memory.
+//! The tables of a screen: the rows as plain data, the store that holds them in lent memory, and what it says (specs/View.antt).
 
+mod counts;
 mod kinds;
 mod reading;
 mod rows;
+mod tag;
 
 pub use kinds::is_acting;
 pub use reading::used_row;
@@ -21,3 +23,5 @@ pub use rows::Name;
 pub use rows::Place;
 pub use rows::Run;
 pub use rows::Store;
+pub use tag::Report;
+pub use tag::Tag;

@@ -1,0 +1,11 @@
+pub mod Runs
+pub mod Pairs
+pub mod Same
+pub mod Growth
+pub mod Frames
+pub mod Laws
+pub mod Relisting
+pub mod Listed
+pub mod Renaming
+pub mod Calls
+pub mod Seen
