@@ -1,0 +1,65 @@
+-- What holds of the entries by where a key stands among them.
+use mathlib.Core.Path.{_≡_, refl, sym, ap, _∙_}
+use mathlib.Core.List.{List, [], _∷_, _++_}
+use mathlib.Core.Bool.{Bool, true, false}
+use mathlib.Core.Logic.{inl, inr}
+use Prim.Native.Nat.{ℕ, zero, suc, zero-le, suc-le-suc, _+_, _≤_, _<_}
+use Rattle.std.specs.declared.option.Option.the-variants.{Some, None}
+use native.Mathlib.Omega.{arith}
+use lib.ListN.{length, take, drop, getD, set}
+use Rattle.std.proofs.shelf.Lists.{at-drop-more, getD-take, length-take-le, take-more-set}
+use Rattle.std.proofs.shelf.Tests.{cases-bool}
+use Rattle.ordered_table.specs.declared.Entry.{Entry}
+use Rattle.ordered_table.specs.Entries.{place, put, look, keys, among}
+
+-- one entry of the first len: the key stands there, or further on
+module _ {K V : Type 0} (e : K → K → Bool) (len : ℕ) (xs : List (Entry K V)) (k : K) (i : ℕ) (d : Entry K V) (h : i < len) (l : len ≤ length xs) where
+  inside : i < length (take len xs)
+  inside = simp (length-take-le len xs l) h
+
+  pub stands-here : e (getD xs i d .key) k ≡ true → place e (drop i (take len xs)) k ≡ 0
+  stands-here t = at-drop-more (λ ys. place e ys k) (take len xs) i d inside ∙ simp (getD-take len xs i d h, t)
+
+  pub stands-later : e (getD xs i d .key) k ≡ false → place e (drop i (take len xs)) k ≡ suc (place e (drop (i + 1) (take len xs)) k)
+  stands-later t = at-drop-more (λ ys. place e ys k) (take len xs) i d inside ∙ simp (getD-take len xs i d h, t)
+
+-- what holds if the key is there, with any default for the entry
+pub record There {K V : Type 0} (e : K → K → Bool) (k : K) (xs : List (Entry K V)) (d : Entry K V) : Type 0 where
+  pub listed : among e (keys xs) k ≡ true
+  pub looked : look e xs k ≡ Some (getD xs (place e xs k) d .value)
+  pub puts : (v : V) → put e xs k v ≡ set xs (place e xs k) (record { key = getD xs (place e xs k) d .key; value = v })
+  pub same-keys : (v : V) → keys (put e xs k v) ≡ keys xs
+
+-- and if it is not
+pub record Absent {K V : Type 0} (e : K → K → Bool) (k : K) (xs : List (Entry K V)) : Type 0 where
+  pub listed : among e (keys xs) k ≡ false
+  pub looked : look e xs k ≡ None
+  pub puts : (v : V) → put e xs k v ≡ xs ++ (record { key = k; value = v } ∷ [])
+  pub at-end : place e xs k ≡ length xs
+
+module _ {K V : Type 0} (e : K → K → Bool) (k : K) where
+  pub there : (xs : List (Entry K V)) (d : Entry K V) → place e xs k < length xs → There e k xs d
+  there [] d h = absurd (omega arith)
+  there (x ∷ xs) d h = elim (cases-bool (e (x .key) k)) [
+      inl t ↦ record { listed = simp t; looked = simp t; puts = λ v. simp t; same-keys = λ v. simp t }
+    | inr f ↦
+        let p : place e (x ∷ xs) k ≡ suc (place e xs k) = simp f in
+        let again = there xs d (omega (arith, p)) in
+        record {
+          listed = simp f (again .listed);
+          looked = simp f (again .looked);
+          puts = λ v. simp f (ap (λ ys. x ∷ ys) (again .puts v));
+          same-keys = λ v. simp f (ap (λ ks. x .key ∷ ks) (again .same-keys v)) } ]
+
+  pub missing : (xs : List (Entry K V)) → length xs ≤ place e xs k → Absent e k xs
+  missing [] h = record { listed = refl; looked = refl; puts = λ v. refl; at-end = refl }
+  missing (x ∷ xs) h = elim (cases-bool (e (x .key) k)) [
+      inl t ↦ let p : place e (x ∷ xs) k ≡ 0 = simp t in absurd (omega (arith, p))
+    | inr f ↦
+        let p : place e (x ∷ xs) k ≡ suc (place e xs k) = simp f in
+        let again = missing xs (omega (arith, p)) in
+        record {
+          listed = simp f (again .listed);
+          looked = simp f (again .looked);
+          puts = λ v. simp f (ap (λ ys. x ∷ ys) (again .puts v));
+          at-end = simp f (ap suc (again .at-end)) } ]

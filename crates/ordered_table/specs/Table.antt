@@ -1,0 +1,36 @@
+-- What a table holds, and what an insertion does to it.
+use Prim.Native.Nat.{ℕ}
+use mathlib.Core.Bool.{Bool, true, false, _||_}
+use mathlib.Core.List.{List}
+use mathlib.Core.Path.{_≡_}
+use lib.Dec.{ltb}
+use lib.ListN.{length, take, drop}
+use denote.Ref.{now}
+use Rattle.std.specs.declared.option.Option.{Option}
+use Rattle.std.specs.declared.result.Result.{Result}
+use Rattle.std.specs.declared.result.Result.the-variants.{Ok, Err}
+use Rattle.ordered_table.specs.declared.Entry.{Entry}
+use Rattle.ordered_table.specs.declared.Full.{Full}
+use Rattle.ordered_table.specs.declared.OrderedTable.{OrderedTable}
+use Rattle.ordered_table.specs.Entries.{put, look, keys, among}
+
+-- the entries of a table, in order
+abbrev pub rows : {K V : Type 0} → OrderedTable K V → List (Entry K V)
+rows t = take (t .len) (now (t .entries))
+
+-- how many keys it can have
+abbrev pub room : {K V : Type 0} → OrderedTable K V → ℕ
+room t = length (now (t .entries))
+
+-- a key can be inserted if it is there already or an entry is spare
+abbrev pub takes : {K V : Type 0} → (K → K → Bool) → OrderedTable K V → K → Bool
+takes e t k = among e (keys (rows t)) k || ltb (length (rows t)) (room t)
+
+-- An insertion of `k` with `v` into `t` that answers `r` and leaves `u`.
+pub record Insertion {K V : Type 0} (e : K → K → Bool) (t : OrderedTable K V) (k : K) (v : V) (r : Result (Option V) Full) (u : OrderedTable K V) : Type 0 where
+  -- it is refused only if the key is new and the table is full; else the answer is the value that the key had
+  pub answers : r ≡ elim (takes e t k) [ true ↦ Ok (look e (rows t) k) | false ↦ Err (record {}) ]
+  pub holds : rows u ≡ elim (takes e t k) [ true ↦ put e (rows t) k v | false ↦ rows t ]
+  -- entries that are spare at the end keep what they held
+  pub spare : drop (u .len) (now (u .entries)) ≡ drop (u .len) (now (t .entries))
+  pub same-room : room u ≡ room t
