@@ -1,6 +1,6 @@
 -- Lists of entries. `e` tells whether two keys are the same.
 use Prim.Native.Nat.{ℕ, suc}
-use mathlib.Core.Bool.{Bool, true, false}
+use mathlib.Core.Bool.{Bool, false, cond}
 use mathlib.Core.List.{List, [], _∷_, _++_, map}
 use mathlib.Core.Path.{_≡_}
 use Rattle.std.specs.declared.option.Option.{Option}
@@ -11,12 +11,12 @@ use Rattle.ordered_table.specs.declared.Entry.{Entry}
 -- a value under a key: a key that is there keeps its position and takes the value, a new one goes to the end
 abbrev pub put : {K V : Type 0} → (K → K → Bool) → List (Entry K V) → K → V → List (Entry K V)
 put e [] k v = record { key = k; value = v } ∷ []
-put e (x ∷ xs) k v = elim (e (x .key) k) [ true ↦ record { key = x .key; value = v } ∷ xs | false ↦ x ∷ put e xs k v ]
+put e (x ∷ xs) k v = cond (e (x .key) k) (record { key = x .key; value = v } ∷ xs) (x ∷ put e xs k v)
 
 -- the value under a key
 abbrev pub look : {K V : Type 0} → (K → K → Bool) → List (Entry K V) → K → Option V
 look e [] k = None
-look e (x ∷ xs) k = elim (e (x .key) k) [ true ↦ Some (x .value) | false ↦ look e xs k ]
+look e (x ∷ xs) k = cond (e (x .key) k) (Some (x .value)) (look e xs k)
 
 abbrev pub keys : {K V : Type 0} → List (Entry K V) → List K
 keys xs = map (λ x. x .key) xs
@@ -28,7 +28,7 @@ among e ks k = any (λ q. e q k) ks
 -- where the key stands: the length if it is not there
 abbrev pub place : {K V : Type 0} → (K → K → Bool) → List (Entry K V) → K → ℕ
 place e [] k = 0
-place e (x ∷ xs) k = elim (e (x .key) k) [ true ↦ 0 | false ↦ suc (place e xs k) ]
+place e (x ∷ xs) k = cond (e (x .key) k) 0 (suc (place e xs k))
 
 -- Runs of insertions.
 
@@ -40,12 +40,12 @@ put-all e xs (p ∷ ps) = put-all e (put e xs (p .key) (p .value)) ps
 -- the keys that are the same as none before them; `seen` came before them all
 abbrev pub firsts : {K : Type 0} → (K → K → Bool) → List K → List K → List K
 firsts e seen [] = []
-firsts e seen (k ∷ ks) = elim (among e seen k) [ true ↦ firsts e seen ks | false ↦ k ∷ firsts e (seen ++ (k ∷ [])) ks ]
+firsts e seen (k ∷ ks) = cond (among e seen k) (firsts e seen ks) (k ∷ firsts e (seen ++ (k ∷ [])) ks)
 
 -- the value that was given last under a key; `o` is what it had before
 abbrev pub given-last : {K V : Type 0} → (K → K → Bool) → Option V → List (Entry K V) → K → Option V
 given-last e o [] q = o
-given-last e o (p ∷ ps) q = given-last e (elim (e (p .key) q) [ true ↦ Some (p .value) | false ↦ o ]) ps q
+given-last e o (p ∷ ps) q = given-last e (cond (e (p .key) q) (Some (p .value)) o) ps q
 
 -- no two keys are the same
 abbrev pub Distinct : {K : Type 0} → (K → K → Bool) → List K → Type 0
@@ -56,7 +56,7 @@ Distinct e (k ∷ ks) = (any (e k) ks ≡ false) × Distinct e ks
 
 -- a key is found with the value that it took last, and every other key as before
 abbrev pub Finds-latest : (K V : Type 0) → (K → K → Bool) → Type 0
-Finds-latest K V e = (xs : List (Entry K V)) (k : K) (v : V) (q : K) → look e (put e xs k v) q ≡ elim (e k q) [ true ↦ Some v | false ↦ look e xs q ]
+Finds-latest K V e = (xs : List (Entry K V)) (k : K) (v : V) (q : K) → look e (put e xs k v) q ≡ cond (e k q) (Some v) (look e xs q)
 
 -- distinct keys stay distinct
 abbrev pub Stays-distinct : (K V : Type 0) → (K → K → Bool) → Type 0

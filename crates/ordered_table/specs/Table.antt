@@ -1,6 +1,6 @@
 -- What a table holds, and what an insertion does to it.
 use Prim.Native.Nat.{ℕ}
-use mathlib.Core.Bool.{Bool, true, false, _||_}
+use mathlib.Core.Bool.{Bool, cond, _||_}
 use mathlib.Core.List.{List}
 use mathlib.Core.Path.{_≡_}
 use lib.Dec.{ltb}
@@ -29,8 +29,8 @@ takes e t k = among e (keys (rows t)) k || ltb (length (rows t)) (room t)
 -- An insertion of `k` with `v` into `t` that answers `r` and leaves `u`.
 pub record Insertion {K V : Type 0} (e : K → K → Bool) (t : OrderedTable K V) (k : K) (v : V) (r : Result (Option V) Full) (u : OrderedTable K V) : Type 0 where
   -- it is refused only if the key is new and the table is full; else the answer is the value that the key had
-  pub answers : r ≡ elim (takes e t k) [ true ↦ Ok (look e (rows t) k) | false ↦ Err (record {}) ]
-  pub holds : rows u ≡ elim (takes e t k) [ true ↦ put e (rows t) k v | false ↦ rows t ]
+  pub answers : r ≡ cond (takes e t k) (Ok (look e (rows t) k)) (Err (record {}))
+  pub holds : rows u ≡ cond (takes e t k) (put e (rows t) k v) (rows t)
   -- entries that are spare at the end keep what they held
   pub spare : drop (u .len) (now (u .entries)) ≡ drop (u .len) (now (t .entries))
   pub same-room : room u ≡ room t

@@ -1,0 +1,5 @@
+use Rattle.ordered_table.proofs.Tables.{listed-at}
+use Rattle.ordered_table.proofs.OrderedTable.contains_key.Needs as need
+
+pub returns : need.returns
+returns g c = listed-at _ (c .args .self .now) _ _ (c .index-of .ensures)

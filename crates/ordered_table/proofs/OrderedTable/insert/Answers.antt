@@ -1,0 +1,13 @@
+use mathlib.Core.Path.{refl}
+use native.Mathlib.Omega.{arith}
+use Rattle.ordered_table.proofs.Tables.{replaced, added, refused}
+use Rattle.ordered_table.proofs.OrderedTable.insert.Needs as need
+
+pub returns-then-i-self : need.returns-then-i-self
+returns-then-i-self g c = record { lender = refl; inserted = replaced _ _ _ _ (c .index-of-i .ensures) _ _ _ _ (c .if-i-self .taken) refl refl }
+
+pub returns-then-self : need.returns-then-self
+returns-then-self g c = record { lender = refl; inserted = refused _ _ _ _ (c .index-of-i .ensures) _ (c .if-i-self .left) (c .if-self .taken) }
+
+pub returns : need.returns
+returns g c = record { lender = refl; inserted = added _ _ _ _ (c .index-of-i .ensures) _ _ (c .if-i-self .left) (omega arith) refl refl }

@@ -1,0 +1,80 @@
+-- The same of a table, with the place of the key as the code found it; and what an insertion leaves.
+use mathlib.Core.Path.{_≡_, refl, sym, ap, _∙_}
+use mathlib.Core.List.{List, [], _∷_, _++_}
+use mathlib.Core.Bool.{Bool, true, false, _||_}
+use mathlib.Core.Logic.{inl, inr}
+use Prim.Native.Nat.{ℕ, zero, suc, _+_, _≤_, _<_}
+use Rattle.std.specs.declared.option.Option.the-variants.{Some, None}
+use Rattle.std.specs.declared.result.Result.the-variants.{Ok, Err}
+use native.Mathlib.Omega.{arith}
+use lib.Dec.{ltb}
+use lib.ListN.{length, take, drop, getD, set}
+use denote.Ref.{now}
+use Rattle.std.proofs.shelf.Lists.{getD-take, length-take-le, length-set, take-more-set, drop-set-lt}
+use Rattle.std.proofs.shelf.Tests.{cases-lt, lt-ltb, le-ltb}
+use Rattle.ordered_table.specs.declared.Entry.{Entry}
+use Rattle.ordered_table.specs.declared.OrderedTable.{OrderedTable}
+use Rattle.ordered_table.specs.Entries.{place, put, look, keys, among}
+use Rattle.ordered_table.specs.Table.{rows, room, takes, Insertion}
+use Rattle.ordered_table.proofs.Places.{There, Absent, there, missing}
+
+take-set-in : {X : Type 0} (n i : ℕ) (xs : List X) (a : X) → take n (set xs i a) ≡ set (take n xs) i a
+take-set-in zero i xs a = refl
+take-set-in (suc n) i [] a = refl
+take-set-in (suc n) zero (x ∷ xs) a = refl
+take-set-in (suc n) (suc i) (x ∷ xs) a = ap (λ ys. x ∷ ys) (take-set-in n i xs a)
+
+pub rows-length : {K V : Type 0} (t : OrderedTable K V) → length (rows t) ≡ t .len
+rows-length t = length-take-le (t .len) (now (t .entries)) (t .fits)
+
+module _ {K V : Type 0} (e : K → K → Bool) (t : OrderedTable K V) (k : K) (i : ℕ) (found : i ≡ place e (rows t) k) where
+  there-at : i < t .len → There e k (rows t)
+  there-at h = there e k (rows t) (omega (arith, rows-length t))
+
+  missing-at : t .len ≤ i → Absent e k (rows t)
+  missing-at h = missing e k (rows t) (omega (arith, rows-length t))
+
+  pub look-at : (d : Entry K V) → i < t .len → look e (rows t) k ≡ Some (getD (now (t .entries)) i d .value)
+  look-at d h = there-at h .looked d ∙ simp (sym found, getD-take (t .len) (now (t .entries)) i d h)
+
+  pub look-none : t .len ≤ i → look e (rows t) k ≡ None
+  look-none h = missing-at h .looked
+
+  pub listed-at : ltb i (t .len) ≡ among e (keys (rows t)) k
+  listed-at = elim (cases-lt i (t .len)) [
+      inl h ↦ lt-ltb i (t .len) h ∙ sym (there-at h .listed)
+    | inr h ↦ le-ltb i (t .len) h ∙ sym (missing-at h .listed) ]
+
+  module _ (v : V) where
+    pub replaced : (c d : Entry K V) (u : OrderedTable K V) → i < t .len → u .len ≡ t .len
+        → now (u .entries) ≡ set (now (t .entries)) i (record { key = getD (now (t .entries)) i d .key; value = v })
+        → Insertion e t k v (Ok (Some (getD (now (t .entries)) i c .value))) u
+    replaced c d u h same is =
+        let w = there-at h in
+        let yes : takes e t k ≡ true = simp (w .listed) in
+        record {
+          answers = simp (yes, look-at c h);
+          holds = simp (same, is, yes) (take-set-in (t .len) i (now (t .entries)) _ ∙ sym (w .puts d v ∙ simp (sym found, getD-take (t .len) (now (t .entries)) i d h)));
+          spare = simp (same, is) (drop-set-lt (t .len) (now (t .entries)) i _ h);
+          same-room = simp is (length-set (now (t .entries)) i _) }
+
+    pub added : (u : OrderedTable K V) → t .len ≤ i → t .len < room t → u .len ≡ t .len + 1
+        → now (u .entries) ≡ set (now (t .entries)) (t .len) (record { key = k; value = v })
+        → Insertion e t k v (Ok None) u
+    added u h l more is =
+        let w = missing-at h in
+        let b : ltb (length (rows t)) (room t) ≡ true = lt-ltb _ _ (omega (arith, rows-length t)) in
+        let yes : takes e t k ≡ true = simp (w .listed, b) in
+        let m : t .len < t .len + 1 = omega arith in
+        record {
+          answers = simp (yes, w .looked);
+          holds = simp (more, is, yes) (take-more-set (now (t .entries)) (t .len) _ l ∙ sym (w .puts v));
+          spare = simp (more, is) (drop-set-lt (t .len + 1) (now (t .entries)) (t .len) _ m);
+          same-room = simp is (length-set (now (t .entries)) (t .len) _) }
+
+    pub refused : t .len ≤ i → t .len ≡ room t → Insertion e t k v (Err (record {})) t
+    refused h l =
+        let w = missing-at h in
+        let b : ltb (length (rows t)) (room t) ≡ false = le-ltb _ _ (omega (arith, rows-length t)) in
+        let no-room : takes e t k ≡ false = simp (w .listed, b) in
+        record { answers = simp no-room; holds = simp no-room; spare = refl; same-room = refl }
