@@ -56,19 +56,20 @@ Distinct e (k ∷ ks) = (any (e k) ks ≡ false) × Distinct e ks
 
 -- a key is found with the value that it took last, and every other key as before
 abbrev pub Finds-latest : (K V : Type 0) → (K → K → Bool) → Type 0
-Finds-latest K V e = (xs : List (Entry K V)) (k : K) (v : V) (q : K) → look e (put e xs k v) q ≡ cond (e k q) (Some v) (look e xs q)
+Finds-latest K V e = (xs : List (Entry K V)) (k : K) (v : V) → (look e (put e xs k v) k ≡ Some v) × ((q : K) → e k q ≡ false → look e (put e xs k v) q ≡ look e xs q)
 
 -- distinct keys stay distinct
 abbrev pub Stays-distinct : (K V : Type 0) → (K → K → Bool) → Type 0
 Stays-distinct K V e = (xs : List (Entry K V)) (k : K) (v : V) → Distinct e (keys xs) → Distinct e (keys (put e xs k v))
 
--- after any insertions the keys stand in the order of their first insertion, and each has the value that was given last
-pub record In-order (K V : Type 0) (e : K → K → Bool) (ps : List (Entry K V)) : Type 0 where
-  pub first-given : keys (put-all e [] ps) ≡ firsts e [] (keys ps)
-  pub last-given : (q : K) → look e (put-all e [] ps) q ≡ given-last e None ps q
+-- After insertions into an empty table the keys are distinct and in the order of their first insertion, and each has the value that
+-- was given last.
+pub record Inserted-in-order {K V : Type 0} (e : K → K → Bool) (ps : List (Entry K V)) : Type 0 where
+  pub order : keys (put-all e [] ps) ≡ firsts e [] (keys ps)
+  pub values : (q : K) → look e (put-all e [] ps) q ≡ given-last e None ps q
   pub distinct : Distinct e (keys (put-all e [] ps))
 
 pub record Ordered (K V : Type 0) (e : K → K → Bool) : Type 0 where
   pub finds : Finds-latest K V e
   pub stays : Stays-distinct K V e
-  pub orders : (ps : List (Entry K V)) → In-order K V e ps
+  pub runs : (ps : List (Entry K V)) → Inserted-in-order e ps

@@ -1,8 +1,8 @@
 ghost use denote.Ref.{name};
 ghost use lib.ListN.{length, take, drop};
-ghost use mathlib.Core.List.{[]};
+ghost use mathlib.Core.List.{List, []};
 ghost use mathlib.Core.Path.{_≡_};
-ghost use Prim.Native.Nat.{_≤_};
+ghost use Prim.Native.Nat.{ℕ, _≤_};
 ghost use Rattle.ordered_table.specs.Entries.{place, look, keys, among, Ordered};
 ghost use Rattle.ordered_table.specs.Table.{rows, room, Insertion};
 ghost use Rattle.std.specs.Options.{mapped};
@@ -32,6 +32,7 @@ impl<'a, K: Key + Copy, V: Copy> OrderedTable<'a, K, V> {
         ensures lender { λ r. ⌜ name (r .entries) ≡ name (entries .entry) ⌝ }
         ensures holds { λ r. ⌜ rows r ≡ [] ⌝ }
         ensures spare { λ r. ⌜ now (r .entries) ≡ now (entries .entry) ⌝ }
+        ensures ordered { λ _. ⌜ ((text : List ℕ) → Ordered K V (K·Key .alike text)) ⌝ }
     {
         OrderedTable { entries, len: 0 }
     }
