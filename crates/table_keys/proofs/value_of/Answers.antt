@@ -1,0 +1,5 @@
+use Rattle.table_keys.proofs.ByRules.{binds-by-rules}
+use Rattle.table_keys.proofs.value_of.Needs as need
+
+pub returns : need.returns
+returns g c = record { value = c .get .ensures; rules = binds-by-rules _ }
