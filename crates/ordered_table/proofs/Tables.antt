@@ -54,7 +54,7 @@ module _ {K V : Type 0} (e : K → K → Bool) (t : OrderedTable K V) (k : K) (i
         let yes : takes e t k ≡ true = simp (w .listed) in
         record {
           answers = simp (yes, look-at c h);
-          holds = simp (same, is, yes) (take-set-in (t .len) i (now (t .entries)) _ ∙ sym (w .puts d v ∙ simp (sym found, getD-take (t .len) (now (t .entries)) i d h)));
+          holds = simp (same, is) (take-set-in (t .len) i (now (t .entries)) _ ∙ sym (w .puts d v ∙ simp (sym found, getD-take (t .len) (now (t .entries)) i d h)));
           spare = simp (same, is) (drop-set-lt (t .len) (now (t .entries)) i _ h);
           same-room = simp is (length-set (now (t .entries)) i _) }
 
@@ -68,7 +68,7 @@ module _ {K V : Type 0} (e : K → K → Bool) (t : OrderedTable K V) (k : K) (i
         let m : t .len < t .len + 1 = omega arith in
         record {
           answers = simp (yes, w .looked);
-          holds = simp (more, is, yes) (take-more-set (now (t .entries)) (t .len) _ l ∙ sym (w .puts v));
+          holds = simp (more, is) (take-more-set (now (t .entries)) (t .len) _ l ∙ sym (w .puts v));
           spare = simp (more, is) (drop-set-lt (t .len + 1) (now (t .entries)) (t .len) _ m);
           same-room = simp is (length-set (now (t .entries)) (t .len) _) }
 
@@ -77,4 +77,4 @@ module _ {K V : Type 0} (e : K → K → Bool) (t : OrderedTable K V) (k : K) (i
         let w = missing-at h in
         let b : ltb (length (rows t)) (room t) ≡ false = le-ltb _ _ (omega (arith, rows-length t)) in
         let no-room : takes e t k ≡ false = simp (w .listed, b) in
-        record { answers = simp no-room; holds = simp no-room; spare = refl; same-room = refl }
+        record { answers = simp no-room; holds = refl; spare = refl; same-room = refl }

@@ -6,6 +6,7 @@ use mathlib.Core.Path.{_≡_}
 use lib.Dec.{ltb}
 use lib.ListN.{length, take, drop}
 use denote.Ref.{now}
+use Rattle.std.specs.Results.{isOk}
 use Rattle.std.specs.declared.option.Option.{Option}
 use Rattle.std.specs.declared.result.Result.{Result}
 use Rattle.std.specs.declared.result.Result.the-variants.{Ok, Err}
@@ -30,7 +31,8 @@ takes e t k = among e (keys (rows t)) k || ltb (length (rows t)) (room t)
 pub record Insertion {K V : Type 0} (e : K → K → Bool) (t : OrderedTable K V) (k : K) (v : V) (r : Result (Option V) Full) (u : OrderedTable K V) : Type 0 where
   -- it is refused only if the key is new and the table is full; else the answer is the value that the key had
   pub answers : r ≡ cond (takes e t k) (Ok (look e (rows t) k)) (Err (record {}))
-  pub holds : rows u ≡ cond (takes e t k) (put e (rows t) k v) (rows t)
+  -- an accepted key takes the value, a refused one stores nothing
+  pub holds : rows u ≡ cond (isOk r) (put e (rows t) k v) (rows t)
   -- entries that are spare at the end keep what they held
   pub spare : drop (u .len) (now (u .entries)) ≡ drop (u .len) (now (t .entries))
   pub same-room : room u ≡ room t

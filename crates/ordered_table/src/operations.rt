@@ -41,7 +41,7 @@ impl<'a, K: Key + Copy, V: Copy> OrderedTable<'a, K, V> {
     pub fn len(&self) -> usize
         ensures { λ r. ⌜ r ≡ length (rows (now (self .entry))) ⌝ }
     {
-        self.len
+        self.entries().len()
     }
 
     // The entries in the order in which their keys were first inserted.
