@@ -10,13 +10,13 @@ use Rattle.rules.specs.Names.{same-bytes}
 use Rattle.ordered_table.proofs.bytes.same_bytes.Needs as need
 
 pub returns-then-a-b : need.returns-then-a-b
-returns-then-a-b c = sym (apart-bytes _ _ (λ e. c .if-a-b .taken (ap length e)))
+returns-then-a-b c = sym (apart-bytes (c .args .a .now) (c .args .b .now) (λ e. let l = ap length e in omega arith))
 
 pub returns-then-a-i : need.returns-then-a-i
-returns-then-a-i c = sym (apart-bytes _ _ (λ e. c .if-a-i .taken (ap (λ (s : List ℕ). getD s (c .loop-i .i) 0) e)))
+returns-then-a-i c = sym (apart-bytes (c .args .a .now) (c .args .b .now) (λ e. let l = ap (λ (s : List ℕ). getD s (c .loop-i .i) 0) e in omega arith))
 
 pub loop-i-again : need.loop-i-again
-loop-i-again c = take-more-same (c .args .a .now) (c .args .b .now) (c .loop-i .i) 0 (omega arith) (omega arith) (c .loop-i .inv) (c .if-a-i .left)
+loop-i-again c = take-more-same (c .args .a .now) (c .args .b .now) (c .loop-i .i) 0 (omega arith) (omega arith) (c .loop-i .inv) (omega arith)
 
 pub returns : need.returns
 returns c =
