@@ -4,7 +4,9 @@ use mathlib.Core.List.{List, [], _∷_, _++_}
 use mathlib.Core.Bool.{Bool, true, false, _||_}
 use mathlib.Core.Logic.{inl, inr}
 use Prim.Native.Nat.{ℕ, zero, suc, _+_, _≤_, _<_}
+use Rattle.std.specs.declared.option.Option.{Option}
 use Rattle.std.specs.declared.option.Option.the-variants.{Some, None}
+use Rattle.std.specs.declared.result.Result.{Result}
 use Rattle.std.specs.declared.result.Result.the-variants.{Ok, Err}
 use native.Mathlib.Omega.{arith}
 use lib.Dec.{ltb}
@@ -13,6 +15,7 @@ use denote.Ref.{now}
 use Rattle.std.proofs.shelf.Lists.{getD-take, length-take-le, length-set, take-more-set, drop-set-lt}
 use Rattle.std.proofs.shelf.Tests.{cases-lt, lt-ltb, le-ltb}
 use Rattle.ordered_table.specs.declared.Entry.{Entry}
+use Rattle.ordered_table.specs.declared.Full.{Full}
 use Rattle.ordered_table.specs.declared.OrderedTable.{OrderedTable}
 use Rattle.ordered_table.specs.Entries.{place, put, look, keys, among}
 use Rattle.ordered_table.specs.Table.{rows, room, takes, Insertion}
@@ -45,36 +48,37 @@ module _ {K V : Type 0} (e : K → K → Bool) (t : OrderedTable K V) (k : K) (i
       inl h ↦ lt-ltb i (t .len) h ∙ sym (there-at h .listed)
     | inr h ↦ le-ltb i (t .len) h ∙ sym (missing-at h .listed) ]
 
-  module _ (v : V) where
-    pub replaced : (c d : Entry K V) (u : OrderedTable K V) → i < t .len → u .len ≡ t .len
+  -- an insertion of `v` that answers `r` and leaves `u`: into the key's own entry, past the last one, or not at all
+  module _ (v : V) (r : Result (Option V) Full) (u : OrderedTable K V) where
+    pub replaced : (c d : Entry K V) → i < t .len → r ≡ Ok (Some (getD (now (t .entries)) i c .value)) → u .len ≡ t .len
         → now (u .entries) ≡ set (now (t .entries)) i (record { key = getD (now (t .entries)) i d .key; value = v })
-        → Insertion e t k v (Ok (Some (getD (now (t .entries)) i c .value))) u
-    replaced c d u h same is =
+        → Insertion e t k v r u
+    replaced c d h answer same is =
         let w = there-at h in
-        let yes : takes e t k ≡ true = simp (w .listed) in
+        let fits : takes e t k ≡ true = simp (w .listed) in
         record {
-          answers = simp (yes, look-at c h);
-          holds = simp (same, is) (take-set-in (t .len) i (now (t .entries)) _ ∙ sym (w .puts d v ∙ simp (sym found, getD-take (t .len) (now (t .entries)) i d h)));
+          answers = answer ∙ simp (fits, look-at c h);
+          holds = simp (answer, same, is) (take-set-in (t .len) i (now (t .entries)) _ ∙ sym (w .puts d v ∙ simp (sym found, getD-take (t .len) (now (t .entries)) i d h)));
           spare = simp (same, is) (drop-set-lt (t .len) (now (t .entries)) i _ h);
           same-room = simp is (length-set (now (t .entries)) i _) }
 
-    pub added : (u : OrderedTable K V) → t .len ≤ i → t .len < room t → u .len ≡ t .len + 1
+    pub added : t .len ≤ i → t .len < room t → r ≡ Ok None → u .len ≡ t .len + 1
         → now (u .entries) ≡ set (now (t .entries)) (t .len) (record { key = k; value = v })
-        → Insertion e t k v (Ok None) u
-    added u h l more is =
+        → Insertion e t k v r u
+    added h l answer more is =
         let w = missing-at h in
-        let b : ltb (length (rows t)) (room t) ≡ true = lt-ltb _ _ (omega (arith, rows-length t)) in
-        let yes : takes e t k ≡ true = simp (w .listed, b) in
+        let spare : ltb (length (rows t)) (room t) ≡ true = lt-ltb _ _ (omega (arith, rows-length t)) in
+        let fits : takes e t k ≡ true = simp (w .listed, spare) in
         let m : t .len < t .len + 1 = omega arith in
         record {
-          answers = simp (yes, w .looked);
-          holds = simp (more, is) (take-more-set (now (t .entries)) (t .len) _ l ∙ sym (w .puts v));
+          answers = answer ∙ simp (fits, w .looked);
+          holds = simp (answer, more, is) (take-more-set (now (t .entries)) (t .len) _ l ∙ sym (w .puts v));
           spare = simp (more, is) (drop-set-lt (t .len + 1) (now (t .entries)) (t .len) _ m);
           same-room = simp is (length-set (now (t .entries)) (t .len) _) }
 
-    pub refused : t .len ≤ i → t .len ≡ room t → Insertion e t k v (Err (record {})) t
-    refused h l =
+    pub refused : t .len ≤ i → room t ≤ t .len → r ≡ Err (record {}) → u .len ≡ t .len → now (u .entries) ≡ now (t .entries) → Insertion e t k v r u
+    refused h l answer same is =
         let w = missing-at h in
-        let b : ltb (length (rows t)) (room t) ≡ false = le-ltb _ _ (omega (arith, rows-length t)) in
-        let no-room : takes e t k ≡ false = simp (w .listed, b) in
-        record { answers = simp no-room; holds = refl; spare = refl; same-room = refl }
+        let full : ltb (length (rows t)) (room t) ≡ false = le-ltb _ _ (omega (arith, rows-length t)) in
+        let fits : takes e t k ≡ false = simp (w .listed, full) in
+        record { answers = answer ∙ simp fits; holds = simp (answer, same, is); spare = simp is; same-room = simp is }

@@ -4,10 +4,10 @@ use Rattle.ordered_table.proofs.Tables.{replaced, added, refused}
 use Rattle.ordered_table.proofs.OrderedTable.insert.Needs as need
 
 pub returns-then-i-self : need.returns-then-i-self
-returns-then-i-self g c = record { lender = refl; inserted = replaced _ _ _ _ (c .index-of-i .ensures) _ _ _ _ (c .if-i-self .taken) refl refl }
+returns-then-i-self g c = record { lender = refl; inserted = replaced _ (c .args .self .now) _ _ (c .index-of-i .ensures) _ _ _ _ _ (c .if-i-self .taken) refl refl refl }
 
 pub returns-then-self : need.returns-then-self
-returns-then-self g c = record { lender = refl; inserted = refused _ _ _ _ (c .index-of-i .ensures) _ (c .if-i-self .left) (c .if-self .taken) }
+returns-then-self g c = record { lender = refl; inserted = refused _ (c .args .self .now) _ _ (c .index-of-i .ensures) _ _ _ (c .if-i-self .left) (omega arith) refl refl refl }
 
 pub returns : need.returns
-returns g c = record { lender = refl; inserted = added _ _ _ _ (c .index-of-i .ensures) _ _ (c .if-i-self .left) (omega arith) refl refl }
+returns g c = record { lender = refl; inserted = added _ (c .args .self .now) _ _ (c .index-of-i .ensures) _ _ _ (c .if-i-self .left) (omega arith) refl refl refl }
