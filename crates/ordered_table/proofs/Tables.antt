@@ -50,14 +50,14 @@ module _ {K V : Type 0} (e : K → K → Bool) (t : OrderedTable K V) (k : K) (i
 
   -- an insertion of `v` that answers `r` and leaves `u`: into the key's own entry, past the last one, or not at all
   module _ (v : V) (r : Result (Option V) Full) (u : OrderedTable K V) where
-    pub replaced : (c d : Entry K V) → i < t .len → r ≡ Ok (Some (getD (now (t .entries)) i c .value)) → u .len ≡ t .len
+    pub replaced : (d : Entry K V) → i < t .len → r ≡ Ok (Some (getD (now (t .entries)) i d .value)) → u .len ≡ t .len
         → now (u .entries) ≡ set (now (t .entries)) i (record { key = getD (now (t .entries)) i d .key; value = v })
         → Insertion e t k v r u
-    replaced c d h answer same is =
+    replaced d h answer same is =
         let w = there-at h in
         let fits : takes e t k ≡ true = simp (w .listed) in
         record {
-          answers = answer ∙ simp (fits, look-at c h);
+          answers = answer ∙ simp (fits, look-at d h);
           holds = simp (answer, same, is) (take-set-in (t .len) i (now (t .entries)) _ ∙ sym (w .puts d v ∙ simp (sym found, getD-take (t .len) (now (t .entries)) i d h)));
           spare = simp (same, is) (drop-set-lt (t .len) (now (t .entries)) i _ h);
           same-room = simp is (length-set (now (t .entries)) i _) }
