@@ -37,8 +37,8 @@ module _ {K V : Type 0} (e : K → K → Bool) (t : OrderedTable K V) (k : K) (i
   missing-at : t .len ≤ i → Absent e k (rows t)
   missing-at h = missing e k (rows t) (omega (arith, rows-length t))
 
-  pub look-at : (d : Entry K V) → i < t .len → look e (rows t) k ≡ Some (getD (now (t .entries)) i d .value)
-  look-at d h = there-at h .looked d ∙ simp (sym found, getD-take (t .len) (now (t .entries)) i d h)
+  pub look-at : i < t .len → (d : Entry K V) → look e (rows t) k ≡ Some (getD (now (t .entries)) i d .value)
+  look-at h d = there-at h .looked d ∙ simp (sym found, getD-take (t .len) (now (t .entries)) i d h)
 
   pub look-none : t .len ≤ i → look e (rows t) k ≡ None
   look-none h = missing-at h .looked
@@ -57,7 +57,7 @@ module _ {K V : Type 0} (e : K → K → Bool) (t : OrderedTable K V) (k : K) (i
         let w = there-at h in
         let fits : takes e t k ≡ true = simp (w .listed) in
         record {
-          answers = answer ∙ simp (fits, look-at d h);
+          answers = answer ∙ simp (fits, look-at h d);
           holds = simp (answer, same, is) (take-set-in (t .len) i (now (t .entries)) _ ∙ sym (w .puts d v ∙ simp (sym found, getD-take (t .len) (now (t .entries)) i d h)));
           spare = simp (same, is) (drop-set-lt (t .len) (now (t .entries)) i _ h);
           same-room = simp is (length-set (now (t .entries)) i _) }
