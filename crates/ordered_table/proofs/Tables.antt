@@ -18,7 +18,7 @@ use Rattle.ordered_table.specs.declared.Entry.{Entry}
 use Rattle.ordered_table.specs.declared.Full.{Full}
 use Rattle.ordered_table.specs.declared.OrderedTable.{OrderedTable}
 use Rattle.ordered_table.specs.Entries.{place, put, look, keys, among}
-use Rattle.ordered_table.specs.Table.{rows, room, takes, Insertion}
+use Rattle.ordered_table.specs.Table.{entries-of, room, takes, Insertion}
 use Rattle.ordered_table.proofs.Places.{There, Absent, there, missing}
 
 take-set-in : {X : Type 0} (n i : ℕ) (xs : List X) (a : X) → take n (set xs i a) ≡ set (take n xs) i a
@@ -27,23 +27,23 @@ take-set-in (suc n) i [] a = refl
 take-set-in (suc n) zero (x ∷ xs) a = refl
 take-set-in (suc n) (suc i) (x ∷ xs) a = ap (λ ys. x ∷ ys) (take-set-in n i xs a)
 
-pub rows-length : {K V : Type 0} (t : OrderedTable K V) → length (rows t) ≡ t .len
-rows-length t = length-take-le (t .len) (now (t .entries)) (t .fits)
+pub entries-length : {K V : Type 0} (t : OrderedTable K V) → length (entries-of t) ≡ t .len
+entries-length t = length-take-le (t .len) (now (t .entries)) (t .fits)
 
-module _ {K V : Type 0} (e : K → K → Bool) (t : OrderedTable K V) (k : K) (i : ℕ) (found : i ≡ place e (rows t) k) where
-  there-at : i < t .len → There e k (rows t)
-  there-at h = there e k (rows t) (omega (arith, rows-length t))
+module _ {K V : Type 0} (e : K → K → Bool) (t : OrderedTable K V) (k : K) (i : ℕ) (found : i ≡ place e (entries-of t) k) where
+  there-at : i < t .len → There e k (entries-of t)
+  there-at h = there e k (entries-of t) (omega (arith, entries-length t))
 
-  missing-at : t .len ≤ i → Absent e k (rows t)
-  missing-at h = missing e k (rows t) (omega (arith, rows-length t))
+  missing-at : t .len ≤ i → Absent e k (entries-of t)
+  missing-at h = missing e k (entries-of t) (omega (arith, entries-length t))
 
-  pub look-at : i < t .len → (d : Entry K V) → look e (rows t) k ≡ Some (getD (now (t .entries)) i d .value)
+  pub look-at : i < t .len → (d : Entry K V) → look e (entries-of t) k ≡ Some (getD (now (t .entries)) i d .value)
   look-at h d = there-at h .looked d ∙ simp (sym found, getD-take (t .len) (now (t .entries)) i d h)
 
-  pub look-none : t .len ≤ i → look e (rows t) k ≡ None
+  pub look-none : t .len ≤ i → look e (entries-of t) k ≡ None
   look-none h = missing-at h .looked
 
-  pub listed-at : ltb i (t .len) ≡ among e (keys (rows t)) k
+  pub listed-at : ltb i (t .len) ≡ among e (keys (entries-of t)) k
   listed-at = elim (cases-lt i (t .len)) [
       inl h ↦ lt-ltb i (t .len) h ∙ sym (there-at h .listed)
     | inr h ↦ le-ltb i (t .len) h ∙ sym (missing-at h .listed) ]
@@ -67,7 +67,7 @@ module _ {K V : Type 0} (e : K → K → Bool) (t : OrderedTable K V) (k : K) (i
         → Insertion e t k v r u
     added h l answer more is =
         let w = missing-at h in
-        let spare : ltb (length (rows t)) (room t) ≡ true = lt-ltb _ _ (omega (arith, rows-length t)) in
+        let spare : ltb (length (entries-of t)) (room t) ≡ true = lt-ltb _ _ (omega (arith, entries-length t)) in
         let fits : takes e t k ≡ true = simp (w .listed, spare) in
         let m : t .len < t .len + 1 = omega arith in
         record {
@@ -79,6 +79,6 @@ module _ {K V : Type 0} (e : K → K → Bool) (t : OrderedTable K V) (k : K) (i
     pub refused : t .len ≤ i → room t ≤ t .len → r ≡ Err (record {}) → u .len ≡ t .len → now (u .entries) ≡ now (t .entries) → Insertion e t k v r u
     refused h l answer same is =
         let w = missing-at h in
-        let full : ltb (length (rows t)) (room t) ≡ false = le-ltb _ _ (omega (arith, rows-length t)) in
+        let full : ltb (length (entries-of t)) (room t) ≡ false = le-ltb _ _ (omega (arith, entries-length t)) in
         let fits : takes e t k ≡ false = simp (w .listed, full) in
         record { answers = answer ∙ simp fits; holds = simp (answer, same, is); spare = simp is; same-room = simp is }

@@ -4,7 +4,7 @@ ghost use mathlib.Core.List.{List, []};
 ghost use mathlib.Core.Path.{_≡_};
 ghost use Prim.Native.Nat.{ℕ, _≤_};
 ghost use Rattle.ordered_table.specs.Entries.{place, look, keys, among, Ordered};
-ghost use Rattle.ordered_table.specs.Table.{rows, room, Insertion};
+ghost use Rattle.ordered_table.specs.Table.{entries-of, room, Insertion};
 ghost use Rattle.std.specs.Options.{mapped};
 use super::Entry;
 use super::Full;
@@ -30,7 +30,7 @@ impl<'a, K: Key + Copy, V: Copy> OrderedTable<'a, K, V> {
     // A table over these entries, with none of them taken.
     pub fn new(entries: &'a mut [Entry<K, V>]) -> OrderedTable<'a, K, V>
         ensures lender { λ r. ⌜ name (r .entries) ≡ name (entries .entry) ⌝ }
-        ensures holds { λ r. ⌜ rows r ≡ [] ⌝ }
+        ensures holds { λ r. ⌜ entries-of r ≡ [] ⌝ }
         ensures spare { λ r. ⌜ now (r .entries) ≡ now (entries .entry) ⌝ }
         ensures ordered { λ _. ⌜ ((text : List ℕ) → Ordered K V (K·Key .alike text)) ⌝ }
     {
@@ -39,21 +39,21 @@ impl<'a, K: Key + Copy, V: Copy> OrderedTable<'a, K, V> {
 
     // How many keys the table has.
     pub fn len(&self) -> usize
-        ensures { λ r. ⌜ r ≡ length (rows (now (self .entry))) ⌝ }
+        ensures { λ r. ⌜ r ≡ length (entries-of (now (self .entry))) ⌝ }
     {
         self.entries().len()
     }
 
     // The entries in the order in which their keys were first inserted.
     pub fn entries(&self) -> &[Entry<K, V>]
-        ensures { λ r. ⌜ now r ≡ rows (now (self .entry)) ⌝ }
+        ensures { λ r. ⌜ now r ≡ entries-of (now (self .entry)) ⌝ }
     {
         let lent = &*self.entries;
         &lent[0..self.len]
     }
 
     fn index_of(&self, key: &K, text: &[u8]) -> usize
-        ensures { λ r. ⌜ r ≡ place (K·Key .alike (now (text .entry))) (rows (now (self .entry))) (now (key .entry)) ⌝ }
+        ensures { λ r. ⌜ r ≡ place (K·Key .alike (now (text .entry))) (entries-of (now (self .entry))) (now (key .entry)) ⌝ }
     {
         let lent = &*self.entries;
         position(lent, self.len, key, text)
@@ -61,7 +61,7 @@ impl<'a, K: Key + Copy, V: Copy> OrderedTable<'a, K, V> {
 
     // The value under a key.
     pub fn get(&self, key: &K, text: &[u8]) -> Option<&V>
-        ensures { λ r. ⌜ mapped now r ≡ look (K·Key .alike (now (text .entry))) (rows (now (self .entry))) (now (key .entry)) ⌝ }
+        ensures { λ r. ⌜ mapped now r ≡ look (K·Key .alike (now (text .entry))) (entries-of (now (self .entry))) (now (key .entry)) ⌝ }
     {
         let i = self.index_of(key, text);
         if i >= self.len {
@@ -73,7 +73,7 @@ impl<'a, K: Key + Copy, V: Copy> OrderedTable<'a, K, V> {
 
     // Is the key in the table?
     pub fn contains_key(&self, key: &K, text: &[u8]) -> bool
-        ensures { λ r. ⌜ r ≡ among (K·Key .alike (now (text .entry))) (keys (rows (now (self .entry)))) (now (key .entry)) ⌝ }
+        ensures { λ r. ⌜ r ≡ among (K·Key .alike (now (text .entry))) (keys (entries-of (now (self .entry)))) (now (key .entry)) ⌝ }
     {
         self.index_of(key, text) < self.len
     }
