@@ -1,16 +1,16 @@
 -- The laws of the table: what is found after insertions, and in which order the keys stand.
-use mathlib.Core.Path.{_≡_, refl, sym, ap, _∙_, subst}
+use mathlib.Core.Path.{_≡_, refl, sym, ap, _∙_}
 use mathlib.Core.List.{List, [], _∷_, _++_}
-use mathlib.Core.Bool.{Bool, true, false, cond, _||_}
+use mathlib.Core.Bool.{Bool, true, false, cond}
 use mathlib.Core.Logic.{inl, inr}
 use Rattle.std.specs.declared.option.Option.{Option}
-use Rattle.std.specs.declared.option.Option.the-variants.{Some, None}
+use Rattle.std.specs.declared.option.Option.the-variants.{Some}
 use lib.ListN.{length}
 use Rattle.std.proofs.shelf.Lists.{append-nil, append-assoc, map-push}
 use Rattle.std.proofs.shelf.Tests.{both-ways, cases-bool, cases-lt, or-parts, or-from}
 use Rattle.rules.specs.Lists.{any}
 use Rattle.ordered_table.specs.declared.Entry.{Entry}
-use Rattle.ordered_table.specs.Entries.{place, put, look, keys, among, put-all, firsts, given-last, Distinct, Finds-latest, Stays-distinct, Inserted-in-order, Ordered}
+use Rattle.ordered_table.specs.Entries.{place, put, look, keys, among, put-all, firsts, given-last, Distinct, Stays-distinct, Ordered}
 use Rattle.ordered_table.proofs.Places.{there, missing}
 
 -- a test that fails on each of these and on one more fails on all

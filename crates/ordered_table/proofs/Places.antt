@@ -1,18 +1,18 @@
 -- What holds of the entries by where a key stands among them.
-use mathlib.Core.Path.{_≡_, refl, sym, ap, _∙_}
+use mathlib.Core.Path.{_≡_, refl, ap, _∙_}
 use mathlib.Core.List.{List, [], _∷_, _++_}
 use mathlib.Core.Bool.{Bool, true, false}
 use mathlib.Core.Logic.{inl, inr}
-use Prim.Native.Nat.{ℕ, zero, suc, zero-le, suc-le-suc, _+_, _≤_, _<_}
+use Prim.Native.Nat.{ℕ, suc, _+_, _≤_, _<_}
 use Rattle.std.specs.declared.option.Option.the-variants.{Some, None}
 use native.Mathlib.Omega.{arith}
 use lib.ListN.{length, take, drop, getD, set}
-use Rattle.std.proofs.shelf.Lists.{at-drop-more, getD-take, length-take-le, take-more-set}
+use Rattle.std.proofs.shelf.Lists.{at-drop-more, getD-take, length-take-le}
 use Rattle.std.proofs.shelf.Tests.{cases-bool}
 use Rattle.ordered_table.specs.declared.Entry.{Entry}
 use Rattle.ordered_table.specs.Entries.{place, put, look, keys, among}
 
--- one entry of the first len: the key stands there, or further on
+-- the first `len` entries from `i` on: the key stands at `i`, or further on
 module _ {K V : Type 0} (e : K → K → Bool) (len : ℕ) (xs : List (Entry K V)) (k : K) (i : ℕ) (d : Entry K V) (h : i < len) (l : len ≤ length xs) where
   inside : i < length (take len xs)
   inside = simp (length-take-le len xs l) h

@@ -1,6 +1,6 @@
 -- To have the same bytes is symmetric and transitive.
 use mathlib.Core.Path.{_≡_, sym, _∙_, subst}
-use mathlib.Core.Bool.{Bool, true, false}
+use mathlib.Core.Bool.{true}
 use mathlib.Core.Logic.{inl, inr}
 use Rattle.std.proofs.shelf.Tests.{both-ways, cases-bool}
 use Rattle.rules.specs.Views.{Bytes}

@@ -1,7 +1,7 @@
--- The same of a table, with the place of the key as the code found it; and what an insertion leaves.
+-- What holds of a table by where a key stands among its entries, and what an insertion leaves.
 use mathlib.Core.Path.{_≡_, refl, sym, ap, _∙_}
-use mathlib.Core.List.{List, [], _∷_, _++_}
-use mathlib.Core.Bool.{Bool, true, false, _||_}
+use mathlib.Core.List.{List, [], _∷_}
+use mathlib.Core.Bool.{Bool, true, false}
 use mathlib.Core.Logic.{inl, inr}
 use Prim.Native.Nat.{ℕ, zero, suc, _+_, _≤_, _<_}
 use Rattle.std.specs.declared.option.Option.{Option}
@@ -10,14 +10,14 @@ use Rattle.std.specs.declared.result.Result.{Result}
 use Rattle.std.specs.declared.result.Result.the-variants.{Ok, Err}
 use native.Mathlib.Omega.{arith}
 use lib.Dec.{ltb}
-use lib.ListN.{length, take, drop, getD, set}
+use lib.ListN.{length, take, getD, set}
 use denote.Ref.{now}
 use Rattle.std.proofs.shelf.Lists.{getD-take, length-take-le, length-set, take-more-set, drop-set-lt}
 use Rattle.std.proofs.shelf.Tests.{cases-lt, lt-ltb, le-ltb}
 use Rattle.ordered_table.specs.declared.Entry.{Entry}
 use Rattle.ordered_table.specs.declared.Full.{Full}
 use Rattle.ordered_table.specs.declared.OrderedTable.{OrderedTable}
-use Rattle.ordered_table.specs.Entries.{place, put, look, keys, among}
+use Rattle.ordered_table.specs.Entries.{place, look, keys, among}
 use Rattle.ordered_table.specs.Table.{entries-of, room, takes, Insertion}
 use Rattle.ordered_table.proofs.Places.{There, Absent, there, missing}
 

@@ -18,6 +18,7 @@ abbrev pub look : {K V : Type 0} → (K → K → Bool) → List (Entry K V) →
 look e [] k = None
 look e (x ∷ xs) k = cond (e (x .key) k) (Some (x .value)) (look e xs k)
 
+-- the keys, in order
 abbrev pub keys : {K V : Type 0} → List (Entry K V) → List K
 keys xs = map (λ x. x .key) xs
 

@@ -1,10 +1,10 @@
 ghost use denote.Ref.{name};
-ghost use lib.ListN.{length, take, drop};
+ghost use lib.ListN.{length, take};
 ghost use mathlib.Core.List.{List, []};
 ghost use mathlib.Core.Path.{_≡_};
 ghost use Prim.Native.Nat.{ℕ, _≤_};
 ghost use Rattle.ordered_table.specs.Entries.{place, look, keys, among, Ordered};
-ghost use Rattle.ordered_table.specs.Table.{entries-of, room, Insertion};
+ghost use Rattle.ordered_table.specs.Table.{entries-of, Insertion};
 ghost use Rattle.std.specs.Options.{mapped};
 use super::Entry;
 use super::Full;

@@ -1,6 +1,6 @@
 -- Tables over identifiers and over names say what the rules' lists say.
 use Prim.Native.Nat.{ℕ}
-use mathlib.Core.Bool.{Bool, _||_}
+use mathlib.Core.Bool.{_||_}
 use mathlib.Core.List.{List, map}
 use mathlib.Core.Path.{_≡_}
 use Rattle.std.specs.Options.{mapped, valueOr}
