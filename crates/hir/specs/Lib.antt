@@ -5,3 +5,4 @@ pub mod WellFormed
 pub mod Frame
 pub mod Lists
 pub mod Tags
+pub mod Keys

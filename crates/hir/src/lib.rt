@@ -1,11 +1,13 @@
 //! The tables of a screen: the rows as plain data, the store that holds them in lent memory, and what it says (specs/View.antt).
 
 mod counts;
+mod keys;
 mod kinds;
 mod reading;
 mod rows;
 mod tag;
 
+pub use keys::{IdentifierKey, NameKey, spelling};
 pub use kinds::is_acting;
 pub use reading::used_row;
 pub use reading::used_run;

@@ -1,0 +1,4 @@
+pub mod SameBytes
+pub mod Places
+pub mod Tables
+pub mod Laws
