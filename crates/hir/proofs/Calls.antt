@@ -19,7 +19,12 @@ use Rattle.hir.proofs.Frames.{kept-stays, kept-then, held-then}
 
 pub becomes : (before after : Store) (t : Tables) (h : Hir) → tables after ≡ t → Held after before → view t ≡ h → Well-formed t → Kept (tables before) t → Becomes before after t h
 becomes before after t h e held seen well kept = record {
-    writes = e; seen = ap view e ∙ seen; well = subst Well-formed (sym e) well; kept = subst (Kept (tables before)) (sym e) kept; held = held }
+  writes = e;
+  seen = ap view e ∙ seen;
+  well = subst Well-formed (sym e) well;
+  kept = subst (Kept (tables before)) (sym e) kept;
+  held = held;
+}
 
 module _ (t : Tables) (w : Well-formed t) (u : Tables) (k : Kept t u) where
   pub name-carried : (n : Name) → Name-fits (t .counts) n → spelt (view u .text) n ≡ spelt (view t .text) n

@@ -30,10 +30,11 @@ module _ {A B : Type 0} (part : A → B) where
 
   pub onward-then : (m n o : ℕ) (xs ys zs : List A) → Onward part m n xs ys → Onward part n o ys zs → Onward part m o xs zs
   onward-then m n o xs ys zs a b = record {
-      more = omega (arith, a .more, b .more);
-      long = b .long ∙ a .long;
-      spare = b .spare ∙ drop-less n o ys xs (b .more) (a .spare);
-      kept = ap (map part) (sym (take-take m n zs (a .more))) ∙ sym (take-map part m (take n zs)) ∙ ap (take m) (b .kept) ∙ take-map part m (take n ys) ∙ ap (map part) (take-take m n ys (a .more)) ∙ a .kept }
+    more = omega (arith, a .more, b .more);
+    long = b .long ∙ a .long;
+    spare = b .spare ∙ drop-less n o ys xs (b .more) (a .spare);
+    kept = ap (map part) (sym (take-take m n zs (a .more))) ∙ sym (take-map part m (take n zs)) ∙ ap (take m) (b .kept) ∙ take-map part m (take n ys) ∙ ap (map part) (take-take m n ys (a .more)) ∙ a .kept;
+  }
 
   -- a row more, and several
   pub onward-set : (m : ℕ) (xs : List A) (x : A) → Onward part m (m + 1) xs (set xs m x)
@@ -41,18 +42,24 @@ module _ {A B : Type 0} (part : A → B) where
 
   pub onward-paste : (m : ℕ) (xs ys : List A) → m + length ys ≤ length xs → Onward part m (m + length ys) xs (paste xs m ys (length ys))
   onward-paste m xs ys h = record {
-      more = omega arith; long = length-paste xs m ys (length ys) h (omega arith);
-      spare = drop-paste xs m ys (length ys) (omega arith) (omega arith); kept = ap (map part) (take-pasted xs m ys (length ys) (omega arith)) }
+    more = omega arith;
+    long = length-paste xs m ys (length ys) h (omega arith);
+    spare = drop-paste xs m ys (length ys) (omega arith) (omega arith);
+    kept = ap (map part) (take-pasted xs m ys (length ys) (omega arith));
+  }
 
   -- a used row written over, of which the part is kept
   pub onward-over : (m n : ℕ) (xs : List A) (x d : A) → n < m → m ≤ length xs → part x ≡ part (getD xs n d) → Onward part m m xs (set xs n x)
   onward-over m n xs x d h l e = record {
-      more = omega arith; long = length-set xs n x; spare = drop-set-lt m xs n x h;
-      kept =
+    more = omega arith;
+    long = length-set xs n x;
+    spare = drop-set-lt m xs n x h;
+    kept =
         let size : length (take m xs) ≡ m = length-take-le m xs l in
         ap (map part) (take-set-lt m xs n x h) ∙ map-set part (take m xs) n x
         ∙ ap (set (map part (take m xs)) n) (e ∙ ap part (sym (getD-take m xs n d h)) ∙ sym (getD-map part (take m xs) n d (part d) (omega arith)))
-        ∙ set-getD (map part (take m xs)) n (part d) }
+        ∙ set-getD (map part (take m xs)) n (part d);
+  }
 
 -- several numbers written over: of those nothing is kept
 map-nothing : (xs ys : List ℕ) → length xs ≡ length ys → map nothing-of xs ≡ map nothing-of ys
@@ -65,19 +72,25 @@ pub onward-rewritten : (m f : ℕ) (xs ns : List ℕ) → f + length ns ≤ m �
 onward-rewritten m f xs ns h l =
     let z : length (paste xs f ns (length ns)) ≡ length xs = length-paste xs f ns (length ns) (omega arith) (omega arith) in
     record {
-      more = omega arith; long = z;
+      more = omega arith;
+      long = z;
       spare = drop-less (f + length ns) m (paste xs f ns (length ns)) xs h (drop-paste xs f ns (length ns) (omega arith) (omega arith));
-      kept = map-nothing (take m (paste xs f ns (length ns))) (take m xs) (length-take m (paste xs f ns (length ns)) ∙ sym (length-take m xs ∙ ap (min m) (sym z))) }
+      kept = map-nothing (take m (paste xs f ns (length ns))) (take m xs) (length-take m (paste xs f ns (length ns)) ∙ sym (length-take m xs ∙ ap (min m) (sym z)));
+    }
 
 -- The frame of the whole.
 
 module _ (t : Tables) where
   abbrev same : All-onward t t
   same = record {
-      text = onward-same (whole {A = ℕ}) (t .counts .text) (t .text); identifiers = onward-same declaration-of (t .counts .identifiers) (t .identifiers);
-      places = onward-same (whole {A = Place}) (t .counts .places) (t .places); instructions = onward-same (whole {A = Instruction}) (t .counts .instructions) (t .instructions);
-      numbers = onward-same nothing-of (t .counts .numbers) (t .numbers); blocks = onward-same without-list (t .counts .blocks) (t .blocks);
-      functions = onward-same (whole {A = HirFunction}) (t .counts .functions) (t .functions) }
+    text = onward-same (whole {A = ℕ}) (t .counts .text) (t .text);
+    identifiers = onward-same declaration-of (t .counts .identifiers) (t .identifiers);
+    places = onward-same (whole {A = Place}) (t .counts .places) (t .places);
+    instructions = onward-same (whole {A = Instruction}) (t .counts .instructions) (t .instructions);
+    numbers = onward-same nothing-of (t .counts .numbers) (t .numbers);
+    blocks = onward-same without-list (t .counts .blocks) (t .blocks);
+    functions = onward-same (whole {A = HirFunction}) (t .counts .functions) (t .functions);
+  }
 
   pub kept-same : Kept t t
   kept-same = onwards same
@@ -120,13 +133,14 @@ module _ (t : Tables) where
 
 pub kept-then : {t u v : Tables} → Kept t u → Kept u v → Kept t v
 kept-then {t} {u} {v} (onwards a) (onwards b) = onwards (record {
-    text = onward-then (whole {A = ℕ}) (t .counts .text) (u .counts .text) (v .counts .text) (t .text) (u .text) (v .text) (a .text) (b .text);
-    identifiers = onward-then declaration-of (t .counts .identifiers) (u .counts .identifiers) (v .counts .identifiers) (t .identifiers) (u .identifiers) (v .identifiers) (a .identifiers) (b .identifiers);
-    places = onward-then (whole {A = Place}) (t .counts .places) (u .counts .places) (v .counts .places) (t .places) (u .places) (v .places) (a .places) (b .places);
-    instructions = onward-then (whole {A = Instruction}) (t .counts .instructions) (u .counts .instructions) (v .counts .instructions) (t .instructions) (u .instructions) (v .instructions) (a .instructions) (b .instructions);
-    numbers = onward-then nothing-of (t .counts .numbers) (u .counts .numbers) (v .counts .numbers) (t .numbers) (u .numbers) (v .numbers) (a .numbers) (b .numbers);
-    blocks = onward-then without-list (t .counts .blocks) (u .counts .blocks) (v .counts .blocks) (t .blocks) (u .blocks) (v .blocks) (a .blocks) (b .blocks);
-    functions = onward-then (whole {A = HirFunction}) (t .counts .functions) (u .counts .functions) (v .counts .functions) (t .functions) (u .functions) (v .functions) (a .functions) (b .functions) })
+  text = onward-then (whole {A = ℕ}) (t .counts .text) (u .counts .text) (v .counts .text) (t .text) (u .text) (v .text) (a .text) (b .text);
+  identifiers = onward-then declaration-of (t .counts .identifiers) (u .counts .identifiers) (v .counts .identifiers) (t .identifiers) (u .identifiers) (v .identifiers) (a .identifiers) (b .identifiers);
+  places = onward-then (whole {A = Place}) (t .counts .places) (u .counts .places) (v .counts .places) (t .places) (u .places) (v .places) (a .places) (b .places);
+  instructions = onward-then (whole {A = Instruction}) (t .counts .instructions) (u .counts .instructions) (v .counts .instructions) (t .instructions) (u .instructions) (v .instructions) (a .instructions) (b .instructions);
+  numbers = onward-then nothing-of (t .counts .numbers) (u .counts .numbers) (v .counts .numbers) (t .numbers) (u .numbers) (v .numbers) (a .numbers) (b .numbers);
+  blocks = onward-then without-list (t .counts .blocks) (u .counts .blocks) (v .counts .blocks) (t .blocks) (u .blocks) (v .blocks) (a .blocks) (b .blocks);
+  functions = onward-then (whole {A = HirFunction}) (t .counts .functions) (u .counts .functions) (v .counts .functions) (t .functions) (u .functions) (v .functions) (a .functions) (b .functions);
+})
 
 pub held-then : {s t u : Store} → Held s t → Held t u → Held s u
 held-then a b = record { text = a .text ∙ b .text; identifiers = a .identifiers ∙ b .identifiers; places = a .places ∙ b .places; instructions = a .instructions ∙ b .instructions; numbers = a .numbers ∙ b .numbers; blocks = a .blocks ∙ b .blocks; functions = a .functions ∙ b .functions; text-length = a .text-length ∙ b .text-length; identifiers-length = a .identifiers-length ∙ b .identifiers-length; places-length = a .places-length ∙ b .places-length; instructions-length = a .instructions-length ∙ b .instructions-length; numbers-length = a .numbers-length ∙ b .numbers-length; blocks-length = a .blocks-length ∙ b .blocks-length; functions-length = a .functions-length ∙ b .functions-length }
@@ -138,6 +152,7 @@ onward-prefix m n xs ys o =
 
 pub kept-stays : (t u : Tables) → Kept t u → Stays (rows t) (rows u)
 kept-stays t u (onwards o) = record {
-    text = onward-prefix (t .counts .text) (u .counts .text) (t .text) (u .text) (o .text);
-    places = onward-prefix (t .counts .places) (u .counts .places) (t .places) (u .places) (o .places);
-    instructions = onward-prefix (t .counts .instructions) (u .counts .instructions) (t .instructions) (u .instructions) (o .instructions) }
+  text = onward-prefix (t .counts .text) (u .counts .text) (t .text) (u .text) (o .text);
+  places = onward-prefix (t .counts .places) (u .counts .places) (t .places) (u .places) (o .places);
+  instructions = onward-prefix (t .counts .instructions) (u .counts .instructions) (t .instructions) (u .instructions) (o .instructions);
+}

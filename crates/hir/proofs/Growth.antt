@@ -40,10 +40,14 @@ pub record More (c d : Counts) : Type 0 where
 
 pub extends-more : (r s : Rows) → Extends r s → More (sizes r) (sizes s)
 extends-more r s e = record {
-    text = prefix-length (r .text) (s .text) (e .text); identifiers = prefix-length (r .identifiers) (s .identifiers) (e .identifiers);
-    places = prefix-length (r .places) (s .places) (e .places); instructions = prefix-length (r .instructions) (s .instructions) (e .instructions);
-    numbers = prefix-length (r .numbers) (s .numbers) (e .numbers); blocks = prefix-length (r .blocks) (s .blocks) (e .blocks);
-    functions = prefix-length (r .functions) (s .functions) (e .functions) }
+  text = prefix-length (r .text) (s .text) (e .text);
+  identifiers = prefix-length (r .identifiers) (s .identifiers) (e .identifiers);
+  places = prefix-length (r .places) (s .places) (e .places);
+  instructions = prefix-length (r .instructions) (s .instructions) (e .instructions);
+  numbers = prefix-length (r .numbers) (s .numbers) (e .numbers);
+  blocks = prefix-length (r .blocks) (s .blocks) (e .blocks);
+  functions = prefix-length (r .functions) (s .functions) (e .functions);
+}
 
 module _ (c d : Counts) (m : More c d) where
   pub name-grows : (n : Name) → Name-fits c n → Name-fits d n
@@ -63,8 +67,11 @@ module _ (c d : Counts) (m : More c d) where
 
   pub instruction-grows : (x : Instruction) → Instruction-fits c x → Instruction-fits d x
   instruction-grows x h = record {
-      result = place-grows (x .result) (h .result); name = name-if-grows (x .name) (h .name);
-      function = λ e. let g = h .function e in omega (arith, g, m .functions); places = omega (arith, h .places, m .places) }
+    result = place-grows (x .result) (h .result);
+    name = name-if-grows (x .name) (h .name);
+    function = λ e. let g = h .function e in omega (arith, g, m .functions);
+    places = omega (arith, h .places, m .places);
+  }
 
   pub block-grows : (ns ms : List ℕ) → Prefix ns ms → c .numbers ≡ length ns → (b : BasicBlock) → Block-fits c ns b → Block-fits d ms b
   block-grows ns ms p z b h =
@@ -77,32 +84,42 @@ module _ (c d : Counts) (m : More c d) where
         listed = subst (All (λ n. n < d .instructions)) i (all-weaker (λ n. n < c .instructions) (λ n. n < d .instructions) (λ n l. omega (arith, m .instructions)) (in-run ns (b .instructions)) (h .listed));
         named = subst (All (λ n. n < d .blocks)) q (all-weaker (λ n. n < c .blocks) (λ n. n < d .blocks) (λ n l. omega (arith, m .blocks)) (in-run ns (b .preds)) (h .named));
         once = subst (λ (l : List ℕ). Pairwise _≢_ l) i (h .once);
-        own = h .own }
+        own = h .own;
+      }
 
   pub function-grows : (f : HirFunction) → Function-fits c f → Function-fits d f
   function-grows f h = record {
-      blocks = omega (arith, h .blocks, m .blocks); params = omega (arith, h .params, m .places); context = omega (arith, h .context, m .places);
-      returns = place-grows (f .returns) (h .returns); tag = name-if-grows (f .tag) (h .tag) }
+    blocks = omega (arith, h .blocks, m .blocks);
+    params = omega (arith, h .params, m .places);
+    context = omega (arith, h .context, m .places);
+    returns = place-grows (f .returns) (h .returns);
+    tag = name-if-grows (f .tag) (h .tag);
+  }
 
 -- two blocks stay apart where there are more numbers
 pub apart-grows : (c : Counts) (ns ms : List ℕ) → Prefix ns ms → c .numbers ≡ length ns → (x y : BasicBlock) → Block-fits c ns x → Block-fits c ns y → Blocks-apart ns x y → Blocks-apart ms x y
 apart-grows c ns ms p z x y hx hy a = record {
-    lists = a .lists; list-preds = a .list-preds; preds-list = a .preds-list; preds = a .preds;
-    rows =
+  lists = a .lists;
+  list-preds = a .list-preds;
+  preds-list = a .preds-list;
+  preds = a .preds;
+  rows =
       let i : in-run ns (x .instructions) ≡ in-run ms (x .instructions) = sym (prefix-run (x .instructions) ns ms p (omega (arith, hx .instructions))) in
       let j : in-run ns (y .instructions) ≡ in-run ms (y .instructions) = sym (prefix-run (y .instructions) ns ms p (omega (arith, hy .instructions))) in
-      subst (λ (l : List ℕ). Unlike l (in-run ms (y .instructions))) i (subst (λ (l : List ℕ). Unlike (in-run ns (x .instructions)) l) j (a .rows)) }
+      subst (λ (l : List ℕ). Unlike l (in-run ms (y .instructions))) i (subst (λ (l : List ℕ). Unlike (in-run ns (x .instructions)) l) j (a .rows));
+}
 
 pub unlike-other-way : (xs ys : List ℕ) → Unlike xs ys → Unlike ys xs
 unlike-other-way xs ys u k l d h g e = u l k d g h (sym e)
 
 pub apart-other-way : (ns : List ℕ) (x y : BasicBlock) → Blocks-apart ns x y → Blocks-apart ns y x
 apart-other-way ns x y a = record {
-    lists = clear-other-way (x .instructions) (y .instructions) (a .lists);
-    list-preds = clear-other-way (x .preds) (y .instructions) (a .preds-list);
-    preds-list = clear-other-way (x .instructions) (y .preds) (a .list-preds);
-    preds = clear-other-way (x .preds) (y .preds) (a .preds);
-    rows = unlike-other-way (in-run ns (x .instructions)) (in-run ns (y .instructions)) (a .rows) }
+  lists = clear-other-way (x .instructions) (y .instructions) (a .lists);
+  list-preds = clear-other-way (x .preds) (y .instructions) (a .preds-list);
+  preds-list = clear-other-way (x .instructions) (y .preds) (a .list-preds);
+  preds = clear-other-way (x .preds) (y .preds) (a .preds);
+  rows = unlike-other-way (in-run ns (x .instructions)) (in-run ns (y .instructions)) (a .rows);
+}
 
 joined-all : {A : Type 0} (P Q : A → Type 0) → ((x : A) → P x → Q x) → (xs ys : List A) → (p : Prefix xs ys) → All P xs → All Q (p .0) → All Q ys
 joined-all P Q f xs ys p a b = subst (All Q) (sym (p .1)) (all-append Q xs (p .0) (all-weaker P Q f xs a) b)
@@ -119,25 +136,28 @@ module _ (r s : Rows) (e : Extends r s) (w : Sound (sizes r) r) where
       → All (Block-fits (sizes s) (s .numbers)) (e .blocks .0) → All (Function-fits (sizes s)) (e .functions .0)
       → Pairwise (Blocks-apart (s .numbers)) (s .blocks) → Pairwise Functions-apart (s .functions) → Sound (sizes s) s
   sound-grown is ps ls bs fs ba fa = record {
-      identifiers = joined-all (Identifier-fits (sizes r)) (Identifier-fits (sizes s)) (λ x. identifier-grows (sizes r) (sizes s) more x (x .name)) (r .identifiers) (s .identifiers) (e .identifiers) (w .identifiers) is;
-      places = joined-all (Place-fits (sizes r)) (Place-fits (sizes s)) (place-grows (sizes r) (sizes s) more) (r .places) (s .places) (e .places) (w .places) ps;
-      instructions = joined-all (Instruction-fits (sizes r)) (Instruction-fits (sizes s)) (instruction-grows (sizes r) (sizes s) more) (r .instructions) (s .instructions) (e .instructions) (w .instructions) ls;
-      blocks = joined-all (Block-fits (sizes r) (r .numbers)) (Block-fits (sizes s) (s .numbers)) (block-grows (sizes r) (sizes s) more (r .numbers) (s .numbers) (e .numbers) refl) (r .blocks) (s .blocks) (e .blocks) (w .blocks) bs;
-      functions = joined-all (Function-fits (sizes r)) (Function-fits (sizes s)) (function-grows (sizes r) (sizes s) more) (r .functions) (s .functions) (e .functions) (w .functions) fs;
-      blocks-apart = ba;
-      functions-apart = fa }
+    identifiers = joined-all (Identifier-fits (sizes r)) (Identifier-fits (sizes s)) (λ x. identifier-grows (sizes r) (sizes s) more x (x .name)) (r .identifiers) (s .identifiers) (e .identifiers) (w .identifiers) is;
+    places = joined-all (Place-fits (sizes r)) (Place-fits (sizes s)) (place-grows (sizes r) (sizes s) more) (r .places) (s .places) (e .places) (w .places) ps;
+    instructions = joined-all (Instruction-fits (sizes r)) (Instruction-fits (sizes s)) (instruction-grows (sizes r) (sizes s) more) (r .instructions) (s .instructions) (e .instructions) (w .instructions) ls;
+    blocks = joined-all (Block-fits (sizes r) (r .numbers)) (Block-fits (sizes s) (s .numbers)) (block-grows (sizes r) (sizes s) more (r .numbers) (s .numbers) (e .numbers) refl) (r .blocks) (s .blocks) (e .blocks) (w .blocks) bs;
+    functions = joined-all (Function-fits (sizes r)) (Function-fits (sizes s)) (function-grows (sizes r) (sizes s) more) (r .functions) (s .functions) (e .functions) (w .functions) fs;
+    blocks-apart = ba;
+    functions-apart = fa;
+  }
 
 -- the counts are the sizes of the used rows
 pub sizes-are : (t : Tables) → Counted t → sizes (rows t) ≡ t .counts
 sizes-are t c = λ i. record {
-    text = length-take-le (t .counts .text) (t .text) (omega (arith, c .text .in-table)) i;
-    identifiers = length-take-le (t .counts .identifiers) (t .identifiers) (omega (arith, c .identifiers .in-table)) i;
-    places = length-take-le (t .counts .places) (t .places) (omega (arith, c .places .in-table)) i;
-    instructions = length-take-le (t .counts .instructions) (t .instructions) (omega (arith, c .instructions .in-table)) i;
-    numbers = length-take-le (t .counts .numbers) (t .numbers) (omega (arith, c .numbers .in-table)) i;
-    blocks = length-take-le (t .counts .blocks) (t .blocks) (omega (arith, c .blocks .in-table)) i;
-    functions = length-take-le (t .counts .functions) (t .functions) (omega (arith, c .functions .in-table)) i;
-    «tag_counter» = t .counts .«tag_counter»; «tag_mark» = t .counts .«tag_mark» }
+  text = length-take-le (t .counts .text) (t .text) (omega (arith, c .text .in-table)) i;
+  identifiers = length-take-le (t .counts .identifiers) (t .identifiers) (omega (arith, c .identifiers .in-table)) i;
+  places = length-take-le (t .counts .places) (t .places) (omega (arith, c .places .in-table)) i;
+  instructions = length-take-le (t .counts .instructions) (t .instructions) (omega (arith, c .instructions .in-table)) i;
+  numbers = length-take-le (t .counts .numbers) (t .numbers) (omega (arith, c .numbers .in-table)) i;
+  blocks = length-take-le (t .counts .blocks) (t .blocks) (omega (arith, c .blocks .in-table)) i;
+  functions = length-take-le (t .counts .functions) (t .functions) (omega (arith, c .functions .in-table)) i;
+  «tag_counter» = t .counts .«tag_counter»;
+  «tag_mark» = t .counts .«tag_mark»;
+}
 
 pub sound-rows : (t : Tables) → Well-formed t → Sound (sizes (rows t)) (rows t)
 sound-rows t w = subst (λ c. Sound c (rows t)) (sym (sizes-are t (w .counted))) (w .sound)

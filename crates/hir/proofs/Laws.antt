@@ -40,9 +40,14 @@ or-false false = refl
 
 abbrev pub with-more : Hir → List IdentifierV → List FunctionV → List InstructionV → Bytes → Hir
 with-more h is fs xs made = record {
-    identifiers = h .identifiers ++ is; functions = h .functions ++ fs;
-    bears = λ n. h .bears n || any (λ x. bears-name x n) xs;
-    used-rows = h .used-rows + length xs; counter = h .counter; mark = h .mark; text = h .text ++ made }
+  identifiers = h .identifiers ++ is;
+  functions = h .functions ++ fs;
+  bears = λ n. h .bears n || any (λ x. bears-name x n) xs;
+  used-rows = h .used-rows + length xs;
+  counter = h .counter;
+  mark = h .mark;
+  text = h .text ++ made;
+}
 
 -- what is kept where nothing comes to it
 abbrev pub lean : (h : Hir) (is : List IdentifierV) (fs : List FunctionV) (made : Bytes) → with-more h is fs [] made ≡ record { identifiers = h .identifiers ++ is; functions = h .functions ++ fs; bears = h .bears; used-rows = h .used-rows; counter = h .counter; mark = h .mark; text = h .text ++ made }
@@ -69,8 +74,10 @@ room-after used n size limit len r e = record { in-table = omega (arith, r .in-t
 module _ (t : Tables) (w : Well-formed t) where
   abbrev r : Rows
   r = rows t
+
   sound : Sound (sizes r) r
   sound = sound-rows t w
+
   sized : t .counts ≡ sizes r
   sized = sym (sizes-are t (w .counted))
 
@@ -78,8 +85,10 @@ module _ (t : Tables) (w : Well-formed t) where
   module _ (x : Identifier) (room : Room (t .counts .identifiers) (1) (length (t .identifiers)) identifiers-limit) where
     abbrev u-identifier : Tables
     u-identifier = with-identifier t x
+
     abbrev s-identifier : Rows
     s-identifier = put-identifiers r (r .identifiers ++ (x ∷ []))
+
     abbrev ext-identifier : Extends r s-identifier
     ext-identifier = record { text = prefix-same (r .text); identifiers = (x ∷ [], refl); places = prefix-same (r .places); instructions = prefix-same (r .instructions); numbers = prefix-same (r .numbers); blocks = prefix-same (r .blocks); functions = prefix-same (r .functions) }
 
@@ -99,8 +108,10 @@ module _ (t : Tables) (w : Well-formed t) where
   module _ (x : Place) (room : Room (t .counts .places) (1) (length (t .places)) places-limit) where
     abbrev u-place : Tables
     u-place = with-place t x
+
     abbrev s-place : Rows
     s-place = put-places r (r .places ++ (x ∷ []))
+
     abbrev ext-place : Extends r s-place
     ext-place = record { text = prefix-same (r .text); identifiers = prefix-same (r .identifiers); places = (x ∷ [], refl); instructions = prefix-same (r .instructions); numbers = prefix-same (r .numbers); blocks = prefix-same (r .blocks); functions = prefix-same (r .functions) }
 
@@ -120,8 +131,10 @@ module _ (t : Tables) (w : Well-formed t) where
   module _ (xs : List Place) (room : Room (t .counts .places) (length xs) (length (t .places)) places-limit) where
     abbrev u-places : Tables
     u-places = with-places t xs
+
     abbrev s-places : Rows
     s-places = put-places r (r .places ++ xs)
+
     abbrev ext-places : Extends r s-places
     ext-places = record { text = prefix-same (r .text); identifiers = prefix-same (r .identifiers); places = (xs, refl); instructions = prefix-same (r .instructions); numbers = prefix-same (r .numbers); blocks = prefix-same (r .blocks); functions = prefix-same (r .functions) }
 
@@ -141,8 +154,10 @@ module _ (t : Tables) (w : Well-formed t) where
   module _ (x : Instruction) (room : Room (t .counts .instructions) (1) (length (t .instructions)) instructions-limit) where
     abbrev u-instruction : Tables
     u-instruction = with-instruction t x
+
     abbrev s-instruction : Rows
     s-instruction = put-instructions r (r .instructions ++ (x ∷ []))
+
     abbrev ext-instruction : Extends r s-instruction
     ext-instruction = record { text = prefix-same (r .text); identifiers = prefix-same (r .identifiers); places = prefix-same (r .places); instructions = (x ∷ [], refl); numbers = prefix-same (r .numbers); blocks = prefix-same (r .blocks); functions = prefix-same (r .functions) }
 
@@ -162,8 +177,10 @@ module _ (t : Tables) (w : Well-formed t) where
   module _ (xs : List ℕ) (room : Room (t .counts .text) (length xs) (length (t .text)) text-limit) where
     abbrev u-text : Tables
     u-text = with-text t xs
+
     abbrev s-text : Rows
     s-text = put-text r (r .text ++ xs)
+
     abbrev ext-text : Extends r s-text
     ext-text = record { text = (xs, refl); identifiers = prefix-same (r .identifiers); places = prefix-same (r .places); instructions = prefix-same (r .instructions); numbers = prefix-same (r .numbers); blocks = prefix-same (r .blocks); functions = prefix-same (r .functions) }
 
@@ -183,8 +200,10 @@ module _ (t : Tables) (w : Well-formed t) where
   module _ (xs : List ℕ) (room : Room (t .counts .numbers) (length xs) (length (t .numbers)) numbers-limit) where
     abbrev u-numbers : Tables
     u-numbers = with-numbers t xs
+
     abbrev s-numbers : Rows
     s-numbers = put-numbers r (r .numbers ++ xs)
+
     abbrev ext-numbers : Extends r s-numbers
     ext-numbers = record { text = prefix-same (r .text); identifiers = prefix-same (r .identifiers); places = prefix-same (r .places); instructions = prefix-same (r .instructions); numbers = (xs, refl); blocks = prefix-same (r .blocks); functions = prefix-same (r .functions) }
 
@@ -204,8 +223,10 @@ module _ (t : Tables) (w : Well-formed t) where
   module _ (x : BasicBlock) (room : Room (t .counts .blocks) (1) (length (t .blocks)) blocks-limit) where
     abbrev u-block : Tables
     u-block = with-block t x
+
     abbrev s-block : Rows
     s-block = put-blocks r (r .blocks ++ (x ∷ []))
+
     abbrev ext-block : Extends r s-block
     ext-block = record { text = prefix-same (r .text); identifiers = prefix-same (r .identifiers); places = prefix-same (r .places); instructions = prefix-same (r .instructions); numbers = prefix-same (r .numbers); blocks = (x ∷ [], refl); functions = prefix-same (r .functions) }
 
@@ -225,8 +246,10 @@ module _ (t : Tables) (w : Well-formed t) where
   module _ (x : HirFunction) (room : Room (t .counts .functions) (1) (length (t .functions)) functions-limit) where
     abbrev u-function : Tables
     u-function = with-function t x
+
     abbrev s-function : Rows
     s-function = put-functions r (r .functions ++ (x ∷ []))
+
     abbrev ext-function : Extends r s-function
     ext-function = record { text = prefix-same (r .text); identifiers = prefix-same (r .identifiers); places = prefix-same (r .places); instructions = prefix-same (r .instructions); numbers = prefix-same (r .numbers); blocks = prefix-same (r .blocks); functions = (x ∷ [], refl) }
 
@@ -256,15 +279,17 @@ module _ (t : Tables) (w : Well-formed t) where
   -- a tag's number: no row changes
   pub well-tag : (number : ℕ) → Well-formed (with-tag t number)
   well-tag number = record {
-      counted = record { text = w .counted .text; identifiers = w .counted .identifiers; places = w .counted .places; instructions = w .counted .instructions; numbers = w .counted .numbers; blocks = w .counted .blocks; functions = w .counted .functions };
-      sound = record {
-        identifiers = all-weaker (Identifier-fits (t .counts)) (Identifier-fits (with-tag t number .counts)) (λ x. identifier-grows (t .counts) (with-tag t number .counts) alike x (x .name)) (r .identifiers) (w .sound .identifiers);
-        places = all-weaker (Place-fits (t .counts)) (Place-fits (with-tag t number .counts)) (place-grows (t .counts) (with-tag t number .counts) alike) (r .places) (w .sound .places);
-        instructions = all-weaker (Instruction-fits (t .counts)) (Instruction-fits (with-tag t number .counts)) (instruction-grows (t .counts) (with-tag t number .counts) alike) (r .instructions) (w .sound .instructions);
-        blocks = all-weaker (Block-fits (t .counts) (r .numbers)) (Block-fits (with-tag t number .counts) (r .numbers)) (block-grows (t .counts) (with-tag t number .counts) alike (r .numbers) (r .numbers) (prefix-same (r .numbers)) (ap (λ (c : Counts). c .numbers) sized)) (r .blocks) (w .sound .blocks);
-        functions = all-weaker (Function-fits (t .counts)) (Function-fits (with-tag t number .counts)) (function-grows (t .counts) (with-tag t number .counts) alike) (r .functions) (w .sound .functions);
-        blocks-apart = w .sound .blocks-apart;
-        functions-apart = w .sound .functions-apart } }
+    counted = record { text = w .counted .text; identifiers = w .counted .identifiers; places = w .counted .places; instructions = w .counted .instructions; numbers = w .counted .numbers; blocks = w .counted .blocks; functions = w .counted .functions };
+    sound = record {
+      identifiers = all-weaker (Identifier-fits (t .counts)) (Identifier-fits (with-tag t number .counts)) (λ x. identifier-grows (t .counts) (with-tag t number .counts) alike x (x .name)) (r .identifiers) (w .sound .identifiers);
+      places = all-weaker (Place-fits (t .counts)) (Place-fits (with-tag t number .counts)) (place-grows (t .counts) (with-tag t number .counts) alike) (r .places) (w .sound .places);
+      instructions = all-weaker (Instruction-fits (t .counts)) (Instruction-fits (with-tag t number .counts)) (instruction-grows (t .counts) (with-tag t number .counts) alike) (r .instructions) (w .sound .instructions);
+      blocks = all-weaker (Block-fits (t .counts) (r .numbers)) (Block-fits (with-tag t number .counts) (r .numbers)) (block-grows (t .counts) (with-tag t number .counts) alike (r .numbers) (r .numbers) (prefix-same (r .numbers)) (ap (λ (c : Counts). c .numbers) sized)) (r .blocks) (w .sound .blocks);
+      functions = all-weaker (Function-fits (t .counts)) (Function-fits (with-tag t number .counts)) (function-grows (t .counts) (with-tag t number .counts) alike) (r .functions) (w .sound .functions);
+      blocks-apart = w .sound .blocks-apart;
+      functions-apart = w .sound .functions-apart;
+    };
+  }
     where
       alike : More (t .counts) (with-tag t number .counts)
       alike = record { text = omega arith; identifiers = omega arith; places = omega arith; instructions = omega arith; numbers = omega arith; blocks = omega arith; functions = omega arith }

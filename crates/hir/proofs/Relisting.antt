@@ -45,22 +45,35 @@ module _ (r : Rows) (ms : List ℕ) (n : ℕ) (run : Run) (ns : List ℕ) (insid
     (here : in-run ms run ≡ ns) where
   abbrev b : ℕ → BasicBlock
   b i = getD (r .blocks) i null-block
+
   abbrev new : BasicBlock
   new = listing-run (b n) run
+
   abbrev pub relisted : Rows
   relisted = put-blocks (put-numbers r ms) (set (r .blocks) n new)
+
   abbrev ls : List InstructionV
   ls = instructions-at r ns
 
   other-block : (i : ℕ) → i < length (r .blocks) → i ≢ n → block-view relisted (b i) ≡ block-view r (b i)
   other-block i h ne = λ v. record {
-      kind = b i .kind; terminal = b i .terminal; detail = b i .detail; places = places-view r (b i .places);
-      rows = instructions-at r (lists i h ne v); preds = preds i h v }
+    kind = b i .kind;
+    terminal = b i .terminal;
+    detail = b i .detail;
+    places = places-view r (b i .places);
+    rows = instructions-at r (lists i h ne v);
+    preds = preds i h v;
+  }
 
   this-block : block-view relisted new ≡ with-rows (block-view r (b n)) ls
   this-block = λ v. record {
-      kind = b n .kind; terminal = b n .terminal; detail = b n .detail; places = places-view r (b n .places);
-      rows = instructions-at r (here v); preds = preds n inside v }
+    kind = b n .kind;
+    terminal = b n .terminal;
+    detail = b n .detail;
+    places = places-view r (b n .places);
+    rows = instructions-at r (here v);
+    preds = preds n inside v;
+  }
 
   -- block n is the k-th of function f, and of no other
   module _ (f k : ℕ) (apart : Pairwise Functions-apart (r .functions)) (hf : f < length (r .functions))
@@ -72,31 +85,36 @@ module _ (r : Rows) (ms : List ℕ) (n : ℕ) (run : Run) (ns : List ℕ) (insid
     other-function j hj ne =
         let clear : Clear (run-at j) (run-at f) = apart j f null-function hj hf ne in
         ap (λ bs. with-blocks (function-view r (getD (r .functions) j null-function)) bs)
-          (ap (λ m. map (block-view relisted) (in-run (set (r .blocks) m new) (run-at j))) (sym is-n)
-          ∙ ap (map (block-view relisted)) (run-set-clear (run-at j) (run-at f) k (r .blocks) new clear hk)
-          ∙ map-all-same (block-view r) (block-view relisted) (in-run (r .blocks) (run-at j)) null-block (λ m h.
-              let v = covers (run-at j) (r .blocks) m h in
-              let e = getD-run (run-at j) (r .blocks) m null-block (v .0) in
-              ap (block-view relisted) e ∙ other-block (run-at j .first + m) (v .1) (λ q. clear-unlike (run-at j) (run-at f) m k clear (v .0) hk (q ∙ sym is-n)) ∙ ap (block-view r) (sym e)))
+        (ap (λ m. map (block-view relisted) (in-run (set (r .blocks) m new) (run-at j))) (sym is-n)
+        ∙ ap (map (block-view relisted)) (run-set-clear (run-at j) (run-at f) k (r .blocks) new clear hk)
+        ∙ map-all-same (block-view r) (block-view relisted) (in-run (r .blocks) (run-at j)) null-block (λ m h.
+        let v = covers (run-at j) (r .blocks) m h in
+        let e = getD-run (run-at j) (r .blocks) m null-block (v .0) in
+        ap (block-view relisted) e ∙ other-block (run-at j .first + m) (v .1) (λ q. clear-unlike (run-at j) (run-at f) m k clear (v .0) hk (q ∙ sym is-n)) ∙ ap (block-view r) (sym e)))
 
     this-function : function-view relisted (getD (r .functions) f null-function) ≡ with-blocks (function-view r (getD (r .functions) f null-function)) (changed (λ c. with-rows c ls) k (function-view r (getD (r .functions) f null-function) .blocks))
     this-function =
         let e = getD-run (run-at f) (r .blocks) k null-block hk in
         ap (λ bs. with-blocks (function-view r (getD (r .functions) f null-function)) bs)
-          (ap (λ m. map (block-view relisted) (in-run (set (r .blocks) m new) (run-at f))) (sym is-n)
-          ∙ ap (map (block-view relisted)) (run-set-inside (run-at f) k (r .blocks) new hk)
-          ∙ map-changed-set (block-view r) (block-view relisted) (λ c. with-rows c ls) (in-run (r .blocks) (run-at f)) k null-block new (covered (run-at f) (r .blocks) k hk (omega (arith, is-n)))
-              (λ m h ne.
-                let v = covers (run-at f) (r .blocks) m h in
-                let g = getD-run (run-at f) (r .blocks) m null-block (v .0) in
-                ap (block-view relisted) g ∙ other-block (run-at f .first + m) (v .1) (λ q. ne (omega (arith, q, is-n))) ∙ ap (block-view r) (sym g))
-              (this-block ∙ ap (λ m. with-rows (block-view r (b m)) ls) (sym is-n) ∙ ap (λ x. with-rows (block-view r x) ls) (sym e)))
+        (ap (λ m. map (block-view relisted) (in-run (set (r .blocks) m new) (run-at f))) (sym is-n)
+        ∙ ap (map (block-view relisted)) (run-set-inside (run-at f) k (r .blocks) new hk)
+        ∙ map-changed-set (block-view r) (block-view relisted) (λ c. with-rows c ls) (in-run (r .blocks) (run-at f)) k null-block new (covered (run-at f) (r .blocks) k hk (omega (arith, is-n)))
+        (λ m h ne.
+        let v = covers (run-at f) (r .blocks) m h in
+        let g = getD-run (run-at f) (r .blocks) m null-block (v .0) in
+        ap (block-view relisted) g ∙ other-block (run-at f .first + m) (v .1) (λ q. ne (omega (arith, q, is-n))) ∙ ap (block-view r) (sym g))
+        (this-block ∙ ap (λ m. with-rows (block-view r (b m)) ls) (sym is-n) ∙ ap (λ x. with-rows (block-view r x) ls) (sym e)))
 
     pub relisted-seen : seen relisted ≡ with-list (seen r) f k (instructions-at r ns)
     relisted-seen = λ i. record {
-        identifiers = seen r .identifiers;
-        functions = map-changed (function-view r) (function-view relisted) (λ g. with-blocks g (changed (λ c. with-rows c ls) k (g .blocks))) (r .functions) f null-function hf other-function this-function i;
-        bears = seen r .bears; used-rows = seen r .used-rows; counter = r .counter; mark = r .mark; text = r .text }
+      identifiers = seen r .identifiers;
+      functions = map-changed (function-view r) (function-view relisted) (λ g. with-blocks g (changed (λ c. with-rows c ls) k (g .blocks))) (r .functions) f null-function hf other-function this-function i;
+      bears = seen r .bears;
+      used-rows = seen r .used-rows;
+      counter = r .counter;
+      mark = r .mark;
+      text = r .text;
+    }
 
   -- d are the counts after it; only that of the numbers may differ from c
   module _ (c d : Counts) (w : Sound c r) (alike : More c d) (run-fits : Run-fits run (d .numbers)) (fit : All (λ m. m < d .instructions) ns) (once : Pairwise _≢_ ns)
@@ -111,36 +129,51 @@ module _ (r : Rows) (ms : List ℕ) (n : ℕ) (run : Run) (ns : List ℕ) (insid
 
     other-fits : (i : ℕ) → i < length (r .blocks) → i ≢ n → Block-fits d ms (b i)
     other-fits i h ne = let o = old-fits i h in record {
-        places = omega (arith, o .places, alike .places); instructions = omega (arith, o .instructions, alike .numbers); preds = omega (arith, o .preds, alike .numbers);
-        listed = subst (All (λ m. m < d .instructions)) (sym (lists i h ne)) (all-weaker (λ m. m < c .instructions) (λ m. m < d .instructions) (λ m l. omega (arith, alike .instructions)) (in-run (r .numbers) (b i .instructions)) (o .listed));
-        named = named-still i h;
-        once = subst (λ (l : List ℕ). Pairwise _≢_ l) (sym (lists i h ne)) (o .once);
-        own = o .own }
+      places = omega (arith, o .places, alike .places);
+      instructions = omega (arith, o .instructions, alike .numbers);
+      preds = omega (arith, o .preds, alike .numbers);
+      listed = subst (All (λ m. m < d .instructions)) (sym (lists i h ne)) (all-weaker (λ m. m < c .instructions) (λ m. m < d .instructions) (λ m l. omega (arith, alike .instructions)) (in-run (r .numbers) (b i .instructions)) (o .listed));
+      named = named-still i h;
+      once = subst (λ (l : List ℕ). Pairwise _≢_ l) (sym (lists i h ne)) (o .once);
+      own = o .own;
+    }
 
     this-fits : Block-fits d ms new
     this-fits = let o = old-fits n inside in record {
-        places = omega (arith, o .places, alike .places); instructions = run-fits; preds = omega (arith, o .preds, alike .numbers);
-        listed = subst (All (λ m. m < d .instructions)) (sym here) fit;
-        named = named-still n inside;
-        once = subst (λ (l : List ℕ). Pairwise _≢_ l) (sym here) once;
-        own = own }
+      places = omega (arith, o .places, alike .places);
+      instructions = run-fits;
+      preds = omega (arith, o .preds, alike .numbers);
+      listed = subst (All (λ m. m < d .instructions)) (sym here) fit;
+      named = named-still n inside;
+      once = subst (λ (l : List ℕ). Pairwise _≢_ l) (sym here) once;
+      own = own;
+    }
 
     others-apart : (i j : ℕ) → i < length (r .blocks) → j < length (r .blocks) → i ≢ j → i ≢ n → j ≢ n → Blocks-apart ms (b i) (b j)
     others-apart i j hi hj ne ni nj = let a = w .blocks-apart i j null-block hi hj ne in record {
-        lists = a .lists; list-preds = a .list-preds; preds-list = a .preds-list; preds = a .preds;
-        rows = subst (λ (l : List ℕ). Unlike l (in-run ms (b j .instructions))) (sym (lists i hi ni)) (subst (λ (l : List ℕ). Unlike (in-run (r .numbers) (b i .instructions)) l) (sym (lists j hj nj)) (a .rows)) }
+      lists = a .lists;
+      list-preds = a .list-preds;
+      preds-list = a .preds-list;
+      preds = a .preds;
+      rows = subst (λ (l : List ℕ). Unlike l (in-run ms (b j .instructions))) (sym (lists i hi ni)) (subst (λ (l : List ℕ). Unlike (in-run (r .numbers) (b i .instructions)) l) (sym (lists j hj nj)) (a .rows));
+    }
 
     this-apart : (i : ℕ) → i < length (r .blocks) → i ≢ n → Blocks-apart ms (b i) new
     this-apart i h ne = let a = w .blocks-apart i n null-block h inside ne in record {
-        lists = clear i h ne .0; list-preds = a .list-preds; preds-list = clear i h ne .1; preds = a .preds;
-        rows = subst (λ (l : List ℕ). Unlike l (in-run ms run)) (sym (lists i h ne)) (subst (λ (l : List ℕ). Unlike (in-run (r .numbers) (b i .instructions)) l) (sym here) (unlike i h ne)) }
+      lists = clear i h ne .0;
+      list-preds = a .list-preds;
+      preds-list = clear i h ne .1;
+      preds = a .preds;
+      rows = subst (λ (l : List ℕ). Unlike l (in-run ms run)) (sym (lists i h ne)) (subst (λ (l : List ℕ). Unlike (in-run (r .numbers) (b i .instructions)) l) (sym here) (unlike i h ne));
+    }
 
     pub relisted-sound : Sound d relisted
     relisted-sound = record {
-        identifiers = all-weaker (Identifier-fits c) (Identifier-fits d) (λ x. identifier-grows c d alike x (x .name)) (r .identifiers) (w .identifiers);
-        places = all-weaker (Place-fits c) (Place-fits d) (place-grows c d alike) (r .places) (w .places);
-        instructions = all-weaker (Instruction-fits c) (Instruction-fits d) (instruction-grows c d alike) (r .instructions) (w .instructions);
-        blocks = all-but-set (Block-fits d ms) (r .blocks) n new null-block inside other-fits this-fits;
-        functions = all-weaker (Function-fits c) (Function-fits d) (function-grows c d alike) (r .functions) (w .functions);
-        blocks-apart = pairwise-set (Blocks-apart ms) (r .blocks) n new null-block inside others-apart (λ i h ne. let a = this-apart i h ne in (a, apart-other-way ms (b i) new a));
-        functions-apart = w .functions-apart }
+      identifiers = all-weaker (Identifier-fits c) (Identifier-fits d) (λ x. identifier-grows c d alike x (x .name)) (r .identifiers) (w .identifiers);
+      places = all-weaker (Place-fits c) (Place-fits d) (place-grows c d alike) (r .places) (w .places);
+      instructions = all-weaker (Instruction-fits c) (Instruction-fits d) (instruction-grows c d alike) (r .instructions) (w .instructions);
+      blocks = all-but-set (Block-fits d ms) (r .blocks) n new null-block inside other-fits this-fits;
+      functions = all-weaker (Function-fits c) (Function-fits d) (function-grows c d alike) (r .functions) (w .functions);
+      blocks-apart = pairwise-set (Blocks-apart ms) (r .blocks) n new null-block inside others-apart (λ i h ne. let a = this-apart i h ne in (a, apart-other-way ms (b i) new a));
+      functions-apart = w .functions-apart;
+    }

@@ -25,6 +25,7 @@ changed-set g (x ∷ xs) (suc n) d y h e = ap (λ v. x ∷ v) (changed-set g xs 
 module _ (t : Tables) (w : Well-formed t) (n : ℕ) (h : n < t .counts .identifiers) where
   abbrev r : Rows
   r = rows t
+
   identifiers-size : length (r .identifiers) ≡ t .counts .identifiers
   identifiers-size = ap (λ (c : Counts). c .identifiers) (sizes-are t (w .counted))
 
@@ -45,8 +46,14 @@ module _ (t : Tables) (w : Well-formed t) (n : ℕ) (h : n < t .counts .identifi
 
   pub well-renamed : (x : Identifier) → Identifier-fits (t .counts) x → Well-formed (over-identifier t n x)
   well-renamed x fit = record {
-      counted = let c = w .counted in record { text = c .text; identifiers = record { in-table = simp length-set (c .identifiers .in-table); in-limit = c .identifiers .in-limit }; places = c .places; instructions = c .instructions; numbers = c .numbers; blocks = c .blocks; functions = c .functions };
-      sound = subst (Sound (t .counts)) (sym (rows-renamed x)) (record {
-        identifiers = all-set (Identifier-fits (t .counts)) (r .identifiers) n x fit (w .sound .identifiers);
-        places = w .sound .places; instructions = w .sound .instructions; blocks = w .sound .blocks; functions = w .sound .functions;
-        blocks-apart = w .sound .blocks-apart; functions-apart = w .sound .functions-apart }) }
+    counted = let c = w .counted in record { text = c .text; identifiers = record { in-table = simp length-set (c .identifiers .in-table); in-limit = c .identifiers .in-limit }; places = c .places; instructions = c .instructions; numbers = c .numbers; blocks = c .blocks; functions = c .functions };
+    sound = subst (Sound (t .counts)) (sym (rows-renamed x)) (record {
+      identifiers = all-set (Identifier-fits (t .counts)) (r .identifiers) n x fit (w .sound .identifiers);
+      places = w .sound .places;
+      instructions = w .sound .instructions;
+      blocks = w .sound .blocks;
+      functions = w .sound .functions;
+      blocks-apart = w .sound .blocks-apart;
+      functions-apart = w .sound .functions-apart;
+    });
+  }

@@ -118,10 +118,13 @@ module _ (r s : Rows) (e : Stays r s) where
 module _ (r s : Rows) (e : Extends r s) where
   pub block-same : Sound (sizes r) r → (b : BasicBlock) → Block-fits (sizes r) (r .numbers) b → block-view s b ≡ block-view r b
   block-same w b h = λ i. record {
-      kind = b .kind; terminal = b .terminal; detail = b .detail;
-      places = places-same r s (stays r s e) w (b .places) (h .places) i;
-      rows = (ap (instructions-at s) (prefix-run (b .instructions) (r .numbers) (s .numbers) (e .numbers) (h .instructions)) ∙ instructions-at-same r s (stays r s e) w (in-run (r .numbers) (b .instructions)) (h .listed)) i;
-      preds = prefix-run (b .preds) (r .numbers) (s .numbers) (e .numbers) (h .preds) i }
+    kind = b .kind;
+    terminal = b .terminal;
+    detail = b .detail;
+    places = places-same r s (stays r s e) w (b .places) (h .places) i;
+    rows = (ap (instructions-at s) (prefix-run (b .instructions) (r .numbers) (s .numbers) (e .numbers) (h .instructions)) ∙ instructions-at-same r s (stays r s e) w (in-run (r .numbers) (b .instructions)) (h .listed)) i;
+    preds = prefix-run (b .preds) (r .numbers) (s .numbers) (e .numbers) (h .preds) i;
+  }
 
   pub blocks-same : Sound (sizes r) r → (run : Run) → Run-fits run (length (r .blocks)) → map (block-view s) (in-run (s .blocks) run) ≡ map (block-view r) (in-run (r .blocks) run)
   blocks-same w run h =
@@ -130,32 +133,35 @@ module _ (r s : Rows) (e : Extends r s) where
 
   pub function-same : Sound (sizes r) r → (f : HirFunction) → Function-fits (sizes r) f → function-view s f ≡ function-view r f
   function-same w f h = λ i. record {
-      type = f .«fn_type»;
-      blocks = blocks-same w (f .blocks) (h .blocks) i;
-      params = places-same r s (stays r s e) w (f .params) (h .params) i;
-      context = places-same r s (stays r s e) w (f .context) (h .context) i;
-      returns = place-same r s (stays r s e) (f .returns) (h .returns) i;
-      tag = spelt-if-same r s (stays r s e) (f .tag) (h .tag) i;
-      appended = f .appended }
+    type = f .«fn_type»;
+    blocks = blocks-same w (f .blocks) (h .blocks) i;
+    params = places-same r s (stays r s e) w (f .params) (h .params) i;
+    context = places-same r s (stays r s e) w (f .context) (h .context) i;
+    returns = place-same r s (stays r s e) (f .returns) (h .returns) i;
+    tag = spelt-if-same r s (stays r s e) (f .tag) (h .tag) i;
+    appended = f .appended;
+  }
 
   -- what the view becomes: what was seen before, and after it what was appended
   abbrev pub grown : Hir
   grown = record {
-      identifiers = map (identifier-view (r .text)) (r .identifiers) ++ map (identifier-view (s .text)) (e .identifiers .0);
-      functions = map (function-view r) (r .functions) ++ map (function-view s) (e .functions .0);
-      bears = λ n. seen r .bears n || any (λ x. bears-name (instruction-view s x) n) (e .instructions .0);
-      used-rows = length (r .instructions) + length (e .instructions .0);
-      counter = s .counter;
-      mark = s .mark;
-      text = r .text ++ e .text .0 }
+    identifiers = map (identifier-view (r .text)) (r .identifiers) ++ map (identifier-view (s .text)) (e .identifiers .0);
+    functions = map (function-view r) (r .functions) ++ map (function-view s) (e .functions .0);
+    bears = λ n. seen r .bears n || any (λ x. bears-name (instruction-view s x) n) (e .instructions .0);
+    used-rows = length (r .instructions) + length (e .instructions .0);
+    counter = s .counter;
+    mark = s .mark;
+    text = r .text ++ e .text .0;
+  }
 
   -- THE FRAME LEMMA: appending leaves the view of all that was used
   pub view-grown : Sound (sizes r) r → seen s ≡ grown
   view-grown w = λ i. record {
-      identifiers = (ap (map (identifier-view (s .text))) (e .identifiers .1) ∙ map-append (identifier-view (s .text)) (r .identifiers) (e .identifiers .0) ∙ ap (λ v. v ++ map (identifier-view (s .text)) (e .identifiers .0)) (map-same (Identifier-fits (sizes r)) (identifier-view (s .text)) (identifier-view (r .text)) (identifier-same r s (stays r s e)) (r .identifiers) (w .identifiers))) i;
-      functions = (ap (map (function-view s)) (e .functions .1) ∙ map-append (function-view s) (r .functions) (e .functions .0) ∙ ap (λ v. v ++ map (function-view s) (e .functions .0)) (map-same (Function-fits (sizes r)) (function-view s) (function-view r) (function-same w) (r .functions) (w .functions))) i;
-      bears = λ n. (ap (any (λ x. bears-name (instruction-view s x) n)) (e .instructions .1) ∙ any-append (λ x. bears-name (instruction-view s x) n) (r .instructions) (e .instructions .0) ∙ ap (λ b. b || any (λ x. bears-name (instruction-view s x) n) (e .instructions .0)) (any-same (Instruction-fits (sizes r)) (λ x. bears-name (instruction-view s x) n) (λ x. bears-name (instruction-view r x) n) (bears-same r s (stays r s e) n) (r .instructions) (w .instructions))) i;
-      used-rows = (ap length (e .instructions .1) ∙ length-append (r .instructions) (e .instructions .0)) i;
-      counter = s .counter;
-      mark = s .mark;
-      text = e .text .1 i }
+    identifiers = (ap (map (identifier-view (s .text))) (e .identifiers .1) ∙ map-append (identifier-view (s .text)) (r .identifiers) (e .identifiers .0) ∙ ap (λ v. v ++ map (identifier-view (s .text)) (e .identifiers .0)) (map-same (Identifier-fits (sizes r)) (identifier-view (s .text)) (identifier-view (r .text)) (identifier-same r s (stays r s e)) (r .identifiers) (w .identifiers))) i;
+    functions = (ap (map (function-view s)) (e .functions .1) ∙ map-append (function-view s) (r .functions) (e .functions .0) ∙ ap (λ v. v ++ map (function-view s) (e .functions .0)) (map-same (Function-fits (sizes r)) (function-view s) (function-view r) (function-same w) (r .functions) (w .functions))) i;
+    bears = λ n. (ap (any (λ x. bears-name (instruction-view s x) n)) (e .instructions .1) ∙ any-append (λ x. bears-name (instruction-view s x) n) (r .instructions) (e .instructions .0) ∙ ap (λ b. b || any (λ x. bears-name (instruction-view s x) n) (e .instructions .0)) (any-same (Instruction-fits (sizes r)) (λ x. bears-name (instruction-view s x) n) (λ x. bears-name (instruction-view r x) n) (bears-same r s (stays r s e) n) (r .instructions) (w .instructions))) i;
+    used-rows = (ap length (e .instructions .1) ∙ length-append (r .instructions) (e .instructions .0)) i;
+    counter = s .counter;
+    mark = s .mark;
+    text = e .text .1 i;
+  }

@@ -37,6 +37,7 @@ slice-run run u xs l h =
 module _ (t : Tables) (w : Readable t) (n : ℕ) (h : n < t .counts .instructions) where
   abbrev row : Instruction
   row = getD (t .instructions) n null-instruction
+
   pub row-is : getD (rows t .instructions) n null-instruction ≡ row
   row-is = getD-take (t .counts .instructions) (t .instructions) n null-instruction h
 

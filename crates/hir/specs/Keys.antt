@@ -5,15 +5,11 @@ use Rattle.rules.specs.Views.{Bytes}
 use Rattle.rules.specs.Names.{same-bytes}
 use Rattle.hir.specs.declared.rows.IdentifierId.{IdentifierId}
 use Rattle.hir.specs.declared.rows.Name.{Name}
-use Rattle.hir.specs.Used.{in-run}
+use Rattle.hir.specs.View.{spelt}
 
 -- identifiers are the same when their numbers are
 abbrev pub same-number : IdentifierId → IdentifierId → Bool
 same-number a b = eqb (a .0) (b .0)
-
--- the bytes of a name, which is its place in the text
-abbrev pub spelt : Bytes → Name → Bytes
-spelt text n = in-run text (record { first = n .start; count = n .len })
 
 -- names are the same when their bytes are
 abbrev pub same-spelling : Bytes → Name → Name → Bool

@@ -37,9 +37,16 @@ pub record Rows : Type 0 where
 
 abbrev pub rows : Tables → Rows
 rows t = record {
-    text = take (t .counts .text) (t .text); identifiers = take (t .counts .identifiers) (t .identifiers); places = take (t .counts .places) (t .places);
-    instructions = take (t .counts .instructions) (t .instructions); numbers = take (t .counts .numbers) (t .numbers); blocks = take (t .counts .blocks) (t .blocks);
-    functions = take (t .counts .functions) (t .functions); counter = t .counts .«tag_counter»; mark = t .counts .«tag_mark» }
+  text = take (t .counts .text) (t .text);
+  identifiers = take (t .counts .identifiers) (t .identifiers);
+  places = take (t .counts .places) (t .places);
+  instructions = take (t .counts .instructions) (t .instructions);
+  numbers = take (t .counts .numbers) (t .numbers);
+  blocks = take (t .counts .blocks) (t .blocks);
+  functions = take (t .counts .functions) (t .functions);
+  counter = t .counts .«tag_counter»;
+  mark = t .counts .«tag_mark»;
+}
 
 -- how many there are of each
 abbrev pub sizes : Rows → Counts
@@ -134,13 +141,14 @@ bears-name x n = (eqb (x .kind) load-global-kind || eqb (x .kind) store-global-k
 
 abbrev pub seen : Rows → Hir
 seen r = record {
-    identifiers = map (identifier-view (r .text)) (r .identifiers);
-    functions = map (function-view r) (r .functions);
-    bears = λ n. any (λ x. bears-name (instruction-view r x) n) (r .instructions);
-    used-rows = length (r .instructions);
-    counter = r .counter;
-    mark = r .mark;
-    text = r .text }
+  identifiers = map (identifier-view (r .text)) (r .identifiers);
+  functions = map (function-view r) (r .functions);
+  bears = λ n. any (λ x. bears-name (instruction-view r x) n) (r .instructions);
+  used-rows = length (r .instructions);
+  counter = r .counter;
+  mark = r .mark;
+  text = r .text;
+}
 
 -- what a store says
 abbrev pub view : Tables → Hir

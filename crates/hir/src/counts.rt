@@ -2,7 +2,13 @@ ghost use mathlib.Core.Path.{_≡_};
 ghost use Prim.Native.Nat.{ℕ, _+_, _<_, _-_, _≤_, _^_};
 ghost use Rattle.hir.specs.Tables.{more-blocks, more-functions, more-identifiers, more-instructions, more-numbers, more-places, more-text, tag-taken};
 ghost use Rattle.hir.specs.WellFormed.{blocks-limit, functions-limit, identifiers-limit, instructions-limit, numbers-limit, places-limit, text-limit};
-use super::rows::{BlockId, Counts, FunctionId, IdentifierId, InstructionId, Name, Run};
+use super::rows::BlockId;
+use super::rows::Counts;
+use super::rows::FunctionId;
+use super::rows::IdentifierId;
+use super::rows::InstructionId;
+use super::rows::Name;
+use super::rows::Run;
 use super::tag::Tag;
 
 // Taking rows that were spare: each answers where they begin, and no other count changes. The caller has seen to the room.

@@ -1,11 +1,12 @@
 // The two kinds of keys of the ordered table: identifiers by their numbers, and names by their bytes in a text.
 
 ghost use mathlib.Core.Path.{_≡_};
-ghost use Rattle.hir.specs.Keys.{spelt, same-number, same-spelling};
+ghost use Rattle.hir.specs.Keys.{same-number, same-spelling};
+ghost use Rattle.hir.specs.View.{spelt};
 use super::rows::IdentifierId;
 use super::rows::Name;
-use ordered_table::same_bytes;
 use ordered_table::Key;
+use ordered_table::same_bytes;
 
 pub impl Key for IdentifierId as IdentifierKey {
     ghost alike = { λ _ a b. same-number a b };

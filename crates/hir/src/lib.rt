@@ -7,7 +7,9 @@ mod reading;
 mod rows;
 mod tag;
 
-pub use keys::{IdentifierKey, NameKey, spelling};
+pub use keys::IdentifierKey;
+pub use keys::NameKey;
+pub use keys::spelling;
 pub use kinds::is_acting;
 pub use reading::used_row;
 pub use reading::used_run;

@@ -2,7 +2,8 @@ ghost use mathlib.Core.Path.{_≡_};
 ghost use Prim.Native.Nat.{ℕ, _+_, _-_, _<_, _≤_, _^_};
 ghost use Rattle.std.specs.declared.option.Option.the-variants.{Some};
 ghost use Rattle.hir.specs.Tags.{with-tag-name, one-abandoned, one-appended};
-use super::rows::{HirFunction, Name};
+use super::rows::HirFunction;
+use super::rows::Name;
 
 // A tag that was taken, and not yet spent. It has no Drop: it can only be put on a function or abandoned, and both are counted.
 pub struct Tag {
@@ -39,7 +40,10 @@ impl Tag {
     {
         let Tag { number: _, name } = self;
         report.functions += 1;
-        HirFunction { tag: Some(name), ..function }
+        HirFunction {
+            tag: Some(name),
+            ..function
+        }
     }
 
     // No function bears it.

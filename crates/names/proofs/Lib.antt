@@ -1,4 +1,3 @@
 pub mod Numbers
-pub mod Compared
 pub mod Naming
 pub mod Pasted

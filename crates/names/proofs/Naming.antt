@@ -47,8 +47,9 @@ module _ (t : Tables) (w : Well-formed t) (made : Bytes) (room : Room (t .counts
 
   pub well-spare : Well-formed (with-spare-text t made)
   well-spare = record {
-      counted = let c = w .counted in record { text = record { in-table = subst (λ n. t .counts .text + 0 ≤ n) (sym (length-paste (t .text) (t .counts .text) made (length made) (room .in-table) (omega arith))) (c .text .in-table); in-limit = c .text .in-limit }; identifiers = c .identifiers; places = c .places; instructions = c .instructions; numbers = c .numbers; blocks = c .blocks; functions = c .functions };
-      sound = subst (Sound (t .counts)) (sym rows-spare) (w .sound) }
+    counted = let c = w .counted in record { text = record { in-table = subst (λ n. t .counts .text + 0 ≤ n) (sym (length-paste (t .text) (t .counts .text) made (length made) (room .in-table) (omega arith))) (c .text .in-table); in-limit = c .text .in-limit }; identifiers = c .identifiers; places = c .places; instructions = c .instructions; numbers = c .numbers; blocks = c .blocks; functions = c .functions };
+    sound = subst (Sound (t .counts)) (sym rows-spare) (w .sound);
+  }
 
 -- the bytes of a name, in the whole text table
 module _ (t : Tables) (w : Well-formed t) (n : Name) (fits : Name-fits (t .counts) n) where
@@ -77,8 +78,10 @@ module _ (t : Tables) (w : Well-formed t) (x : ℕ) (used : x < t .counts .ident
   module _ (room : Room (t .counts .text) (length (temporary (i .declaration))) (length (t .text)) text-limit) where
     abbrev made : Bytes
     made = temporary (i .declaration)
+
     abbrev t₁ : Tables
     t₁ = with-text t made
+
     w₁ : Well-formed t₁
     w₁ = well-text t w made room
 

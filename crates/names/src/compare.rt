@@ -5,22 +5,9 @@ ghost use Rattle.rules.specs.Names.{is-key, same-bytes};
 ghost use Rattle.hir.specs.Tables.{tables};
 ghost use Rattle.hir.specs.View.{spelt, spelt-if, view};
 ghost use Rattle.hir.specs.WellFormed.{Name-fits, Name-if-fits, Well-formed};
-use hir::{Name, Store};
-
-// Names are the same when their bytes are. It stops at the first difference.
-pub fn same_bytes(a: &[u8], b: &[u8]) -> bool
-    ensures { λ r. ⌜ r ≡ same-bytes (now (a .entry)) (now (b .entry)) ⌝ }
-{
-    if a.len() != b.len() {
-        return false;
-    }
-    for (i, x) in a.iter().enumerate() {
-        if *x != b[i] {
-            return false;
-        }
-    }
-    true
-}
+use hir::Name;
+use hir::Store;
+use ordered_table::same_bytes;
 
 // The bytes of a name.
 pub fn name_bytes<'b>(store: &'b Store<'_>, name: Name) -> &'b [u8]

@@ -12,7 +12,10 @@ ghost use Rattle.hir.specs.WellFormed.{text-limit, Name-fits, Room, Well-formed
 ghost use Rattle.hir.specs.Frame.{Becomes};
 ghost use Rattle.names.specs.Made.{next-name, with-promoted, with-spare-text};
 use super::digits::write_decimal;
-use hir::{IdentifierId, IdentifierName, Name, Store};
+use hir::IdentifierId;
+use hir::IdentifierName;
+use hir::Name;
+use hir::Store;
 
 fn write_text(store: &mut Store<'_>, text: &[u8]) -> Name
     requires { ⌜ Room (now store .counts .text) (length (now text)) (length (now (now store .text))) text-limit ⌝ }
@@ -91,7 +94,10 @@ pub fn spell_renamed(store: &mut Store<'_>, base: Name, number: u32) -> Name
     let len = base.len as usize;
     copy_onward(store.text, base.start as usize, len, at);
     let end = write_decimal(store.text, at + len, number);
-    Name { start: at as u32, len: (end - at) as u32 }
+    Name {
+        start: at as u32,
+        len: (end - at) as u32,
+    }
 }
 
 fn write_promoted(store: &mut Store<'_>, id: IdentifierId)

@@ -28,21 +28,24 @@ module _ {K V : Type 0} (e : K → K → Bool) where
   -- a key that is there adds none, a new one goes to the end
   pub keys-put : (xs : List (Entry K V)) (k : K) (v : V) → keys (put e xs k v) ≡ cond (among e (keys xs) k) (keys xs) (keys xs ++ (k ∷ []))
   keys-put xs k v = elim (cases-lt (place e xs k) (length xs)) [
-      inl h ↦ let w = there e k xs h in simp (w .listed) (w .same-keys v)
-    | inr h ↦ let w = missing e k xs h in simp (w .listed) (ap keys (w .puts v) ∙ map-push (λ x. x .key) xs (record { key = k; value = v })) ]
+    | inl h ↦ let w = there e k xs h in simp (w .listed) (w .same-keys v)
+    | inr h ↦ let w = missing e k xs h in simp (w .listed) (ap keys (w .puts v) ∙ map-push (λ x. x .key) xs (record { key = k; value = v }))
+  ]
 
   pub stays-distinct : Stays-distinct K V e
   stays-distinct xs k v h = elim (cases-bool (among e (keys xs) k)) [
-      inl t ↦ simp (keys-put xs k v, t) h
-    | inr f ↦ simp (keys-put xs k v, f) (distinct-push e (keys xs) k h f) ]
+    | inl t ↦ simp (keys-put xs k v, t) h
+    | inr f ↦ simp (keys-put xs k v, f) (distinct-push e (keys xs) k h f)
+  ]
 
   run-order : (ps xs : List (Entry K V)) → keys (put-all e xs ps) ≡ keys xs ++ firsts e (keys xs) (keys ps)
   run-order [] xs = sym (append-nil (keys xs))
   run-order (p ∷ ps) xs =
-    let again = run-order ps (put e xs (p .key) (p .value)) in
-    elim (cases-bool (among e (keys xs) (p .key))) [
-        inl t ↦ again ∙ simp (keys-put xs (p .key) (p .value), t)
-      | inr f ↦ again ∙ simp (keys-put xs (p .key) (p .value), f) (append-assoc (keys xs) (p .key ∷ []) _) ]
+      let again = run-order ps (put e xs (p .key) (p .value)) in
+      elim (cases-bool (among e (keys xs) (p .key))) [
+        | inl t ↦ again ∙ simp (keys-put xs (p .key) (p .value), t)
+        | inr f ↦ again ∙ simp (keys-put xs (p .key) (p .value), f) (append-assoc (keys xs) (p .key ∷ []) _)
+      ]
 
   run-distinct : (ps xs : List (Entry K V)) → Distinct e (keys xs) → Distinct e (keys (put-all e xs ps))
   run-distinct [] xs h = h
@@ -72,4 +75,5 @@ module _ {K V : Type 0} (e : K → K → Bool) (same : (a : K) → e a a ≡ tru
   ordered = record {
     finds = λ xs k v. (found xs k v k ∙ simp (same k), λ q n. found xs k v q ∙ simp n);
     stays = stays-distinct e;
-    runs = λ ps. record { order = run-order e ps []; values = run-values ps []; distinct = run-distinct e ps [] tt } }
+    runs = λ ps. record { order = run-order e ps []; values = run-values ps []; distinct = run-distinct e ps [] tt };
+  }

@@ -40,7 +40,7 @@ module _ {K V : Type 0} (e : K → K → Bool) (k : K) where
   pub there : (xs : List (Entry K V)) → place e xs k < length xs → There e k xs
   there [] h = absurd (omega arith)
   there (x ∷ xs) h = elim (cases-bool (e (x .key) k)) [
-      inl t ↦ record { listed = simp t; looked = λ d. simp t; puts = λ d v. simp t; same-keys = λ v. simp t }
+    | inl t ↦ record { listed = simp t; looked = λ d. simp t; puts = λ d v. simp t; same-keys = λ v. simp t }
     | inr f ↦
         let p : place e (x ∷ xs) k ≡ suc (place e xs k) = simp f in
         let again = there xs (omega (arith, p)) in
@@ -48,16 +48,20 @@ module _ {K V : Type 0} (e : K → K → Bool) (k : K) where
           listed = simp f (again .listed);
           looked = λ d. simp f (again .looked d);
           puts = λ d v. simp f (ap (λ ys. x ∷ ys) (again .puts d v));
-          same-keys = λ v. simp f (ap (λ ks. x .key ∷ ks) (again .same-keys v)) } ]
+          same-keys = λ v. simp f (ap (λ ks. x .key ∷ ks) (again .same-keys v));
+        }
+  ]
 
   pub missing : (xs : List (Entry K V)) → length xs ≤ place e xs k → Absent e k xs
   missing [] h = record { listed = refl; looked = refl; puts = λ v. refl }
   missing (x ∷ xs) h = elim (cases-bool (e (x .key) k)) [
-      inl t ↦ let p : place e (x ∷ xs) k ≡ 0 = simp t in absurd (omega (arith, p))
+    | inl t ↦ let p : place e (x ∷ xs) k ≡ 0 = simp t in absurd (omega (arith, p))
     | inr f ↦
         let p : place e (x ∷ xs) k ≡ suc (place e xs k) = simp f in
         let again = missing xs (omega (arith, p)) in
         record {
           listed = simp f (again .listed);
           looked = simp f (again .looked);
-          puts = λ v. simp f (ap (λ ys. x ∷ ys) (again .puts v)) } ]
+          puts = λ v. simp f (ap (λ ys. x ∷ ys) (again .puts v));
+        }
+  ]

@@ -9,8 +9,9 @@ use Rattle.rules.proofs.Naming.{same-true, same-refl, apart-bytes}
 
 pub same-flip : (a b : Bytes) → same-bytes a b ≡ same-bytes b a
 same-flip a b = elim (cases-bool (same-bytes a b)) [
-    inl t ↦ simp (same-true a b t)
-  | inr f ↦ f ∙ sym (apart-bytes b a (λ e. both-ways (same-bytes a b) f (subst (λ (s : Bytes). same-bytes a s ≡ true) (sym e) (same-refl a)))) ]
+  | inl t ↦ simp (same-true a b t)
+  | inr f ↦ f ∙ sym (apart-bytes b a (λ e. both-ways (same-bytes a b) f (subst (λ (s : Bytes). same-bytes a s ≡ true) (sym e) (same-refl a))))
+]
 
 pub same-chain : (a b c : Bytes) → same-bytes a b ≡ true → same-bytes b c ≡ true → same-bytes a c ≡ true
 same-chain a b c p q = simp (same-true a b p) q

@@ -45,8 +45,9 @@ module _ {K V : Type 0} (e : K → K → Bool) (t : OrderedTable K V) (k : K) (i
 
   pub listed-at : ltb i (t .len) ≡ among e (keys (entries-of t)) k
   listed-at = elim (cases-lt i (t .len)) [
-      inl h ↦ lt-ltb i (t .len) h ∙ sym (there-at h .listed)
-    | inr h ↦ le-ltb i (t .len) h ∙ sym (missing-at h .listed) ]
+    | inl h ↦ lt-ltb i (t .len) h ∙ sym (there-at h .listed)
+    | inr h ↦ le-ltb i (t .len) h ∙ sym (missing-at h .listed)
+  ]
 
   -- an insertion of `v` that answers `r` and leaves `u`: into the key's own entry, past the last one, or not at all
   module _ (v : V) (r : Result (Option V) Full) (u : OrderedTable K V) where
@@ -60,7 +61,8 @@ module _ {K V : Type 0} (e : K → K → Bool) (t : OrderedTable K V) (k : K) (i
           answers = answer ∙ simp (fits, look-at h d);
           holds = simp (answer, same, is) (take-set-in (t .len) i (now (t .entries)) _ ∙ sym (w .puts d v ∙ simp (sym found, getD-take (t .len) (now (t .entries)) i d h)));
           spare = simp (same, is) (drop-set-lt (t .len) (now (t .entries)) i _ h);
-          same-room = simp is (length-set (now (t .entries)) i _) }
+          same-room = simp is (length-set (now (t .entries)) i _);
+        }
 
     pub added : t .len ≤ i → t .len < room t → r ≡ Ok None → u .len ≡ t .len + 1
         → now (u .entries) ≡ set (now (t .entries)) (t .len) (record { key = k; value = v })
@@ -74,7 +76,8 @@ module _ {K V : Type 0} (e : K → K → Bool) (t : OrderedTable K V) (k : K) (i
           answers = answer ∙ simp (fits, w .looked);
           holds = simp (answer, more, is) (take-more-set (now (t .entries)) (t .len) _ l ∙ sym (w .puts v));
           spare = simp (more, is) (drop-set-lt (t .len + 1) (now (t .entries)) (t .len) _ m);
-          same-room = simp is (length-set (now (t .entries)) (t .len) _) }
+          same-room = simp is (length-set (now (t .entries)) (t .len) _);
+        }
 
     pub refused : t .len ≤ i → room t ≤ t .len → r ≡ Err (record {}) → u .len ≡ t .len → now (u .entries) ≡ now (t .entries) → Insertion e t k v r u
     refused h l answer same is =

@@ -87,7 +87,10 @@ impl<'a, K: Key + Copy, V: Copy> OrderedTable<'a, K, V> {
         let i = self.index_of(&key, text);
         if i < self.len {
             let old = self.entries[i];
-            self.entries[i] = Entry { key: old.key, value };
+            self.entries[i] = Entry {
+                key: old.key,
+                value,
+            };
             return Ok(Some(old.value));
         }
         if self.len == self.entries.len() {

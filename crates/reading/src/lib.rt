@@ -9,7 +9,10 @@ ghost use Rattle.hir.specs.Tables.{tables};
 ghost use Rattle.hir.specs.View.{instruction-at, instructions-at, place-view, rows, view};
 ghost use Rattle.hir.specs.WellFormed.{Place-fits, Readable, Well-formed};
 ghost use Rattle.hir.specs.Lists.{block-of, Has-block};
-use hir::{FunctionId, InstructionId, Place, Store};
+use hir::FunctionId;
+use hir::InstructionId;
+use hir::Place;
+use hir::Store;
 
 // The places of a row.
 pub fn row_places<'b>(store: &'b Store<'_>, id: InstructionId) -> &'b [Place]

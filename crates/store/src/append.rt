@@ -11,7 +11,18 @@ ghost use Rattle.hir.specs.WellFormed.{functions-limit, identifiers-limit, inst
 ghost use Rattle.hir.specs.Lists.{Function-fits-in};
 ghost use Rattle.hir.specs.Tags.{one-appended, with-tag-name};
 ghost use Rattle.hir.specs.Frame.{Becomes};
-use hir::{FunctionId, HirFunction, Identifier, IdentifierId, IdentifierName, Instruction, InstructionId, Place, Report, Run, Store, Tag};
+use hir::FunctionId;
+use hir::HirFunction;
+use hir::Identifier;
+use hir::IdentifierId;
+use hir::IdentifierName;
+use hir::Instruction;
+use hir::InstructionId;
+use hir::Place;
+use hir::Report;
+use hir::Run;
+use hir::Store;
+use hir::Tag;
 
 // Each append has a part that only writes, and asks for room alone.
 
@@ -90,7 +101,9 @@ pub(super) fn write_numbers(store: &mut Store<'_>, numbers: &[u32]) -> Run
 {
     let run = store.counts.take_numbers(numbers.len() as u32);
     let at = run.first as usize;
-    store.numbers[at..at + numbers.len()].copy_from_slice(numbers);
+    store
+        .numbers[at..at + numbers.len()]
+        .copy_from_slice(numbers);
     run
 }
 
@@ -140,7 +153,12 @@ fn write_function(store: &mut Store<'_>, function: HirFunction) -> FunctionId
 }
 
 // A function (the Rust's `outline_function`): the tag is put on it, and it is seen after those that were there.
-pub fn append_function(store: &mut Store<'_>, function: HirFunction, tag: Tag, report: &mut Report) -> FunctionId
+pub fn append_function(
+    store: &mut Store<'_>,
+    function: HirFunction,
+    tag: Tag,
+    report: &mut Report,
+) -> FunctionId
     requires well { ⌜ Well-formed (tables (now store)) ⌝ }
     requires room { ⌜ Room (now store .counts .functions) 1 (length (now (now store .functions))) functions-limit ⌝ }
     requires fits { ⌜ Function-fits-in (tables (now store)) (with-tag-name function (tag .name)) ⌝ }

@@ -8,7 +8,10 @@ ghost use Rattle.hir.specs.WellFormed.{blocks-limit, numbers-limit, Room, Well-
 ghost use Rattle.hir.specs.Lists.{block-number, with-listed-block, with-new-list, Block-fits-in, Has-block, List-fits, Unlisted-but};
 ghost use Rattle.hir.specs.Frame.{Becomes};
 use super::append::write_numbers;
-use hir::{BasicBlock, BlockId, FunctionId, Store};
+use hir::BasicBlock;
+use hir::BlockId;
+use hir::FunctionId;
+use hir::Store;
 
 fn write_block(store: &mut Store<'_>, block: BasicBlock, list: &[u32]) -> BlockId
     requires { ⌜ Room (now store .counts .numbers) (length (now list)) (length (now (now store .numbers))) numbers-limit ⌝ ∗ ⌜ Room (now store .counts .blocks) 1 (length (now (now store .blocks))) blocks-limit ⌝ }
@@ -18,7 +21,10 @@ fn write_block(store: &mut Store<'_>, block: BasicBlock, list: &[u32]) -> BlockI
 {
     let instructions = write_numbers(store, list);
     let id = store.counts.take_block();
-    store.blocks[id.0 as usize] = BasicBlock { instructions, ..block };
+    store.blocks[id.0 as usize] = BasicBlock {
+        instructions,
+        ..block
+    };
     id
 }
 

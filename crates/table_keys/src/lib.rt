@@ -2,7 +2,8 @@
 
 ghost use mathlib.Core.List.{map};
 ghost use mathlib.Core.Path.{_≡_};
-ghost use Rattle.hir.specs.Keys.{spelt, same-number};
+ghost use Rattle.hir.specs.Keys.{same-number};
+ghost use Rattle.hir.specs.View.{spelt};
 ghost use Rattle.ordered_table.specs.Entries.{look, keys};
 ghost use Rattle.ordered_table.specs.Table.{entries-of};
 ghost use Rattle.rules.specs.Names.{borne};
@@ -15,7 +16,10 @@ use hir::NameKey;
 use ordered_table::OrderedTable;
 
 // The value of an identifier; no text is needed to compare numbers. Tables over identifiers are those of the rules.
-pub fn value_of<'t, V: Copy>(table: &'t OrderedTable<'_, IdentifierId, V>, id: IdentifierId) -> Option<&'t V>
+pub fn value_of<'t, V: Copy>(
+    table: &'t OrderedTable<'_, IdentifierId, V>,
+    id: IdentifierId,
+) -> Option<&'t V>
     ensures value { λ r. ⌜ mapped now r ≡ look same-number (entries-of (now (table .entry))) id ⌝ }
     ensures rules { λ _. ⌜ Binds-by-rules V ⌝ }
 {

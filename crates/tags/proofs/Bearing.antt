@@ -48,8 +48,10 @@ module _ (t : Tables) (w : Well-formed t) (n : Bytes) (i : ℕ) where
   module _ (h : i < t .counts .identifiers) where
     abbrev here : Identifier
     here = getD (t .identifiers) i null-identifier
+
     identifiers-size : length (rows t .identifiers) ≡ t .counts .identifiers
     identifiers-size = ap (λ (c : Counts). c .identifiers) (sizes-are t (w .counted))
+
     is-here : getD (rows t .identifiers) i null-identifier ≡ here
     is-here = getD-take (t .counts .identifiers) (t .identifiers) i null-identifier h
 
@@ -66,8 +68,10 @@ module _ (t : Tables) (w : Well-formed t) (n : Bytes) (i : ℕ) where
   module _ (h : i < t .counts .instructions) where
     abbrev row : Instruction
     row = getD (t .instructions) i null-instruction
+
     instructions-size : length (rows t .instructions) ≡ t .counts .instructions
     instructions-size = ap (λ (c : Counts). c .instructions) (sizes-are t (w .counted))
+
     is-row : getD (rows t .instructions) i null-instruction ≡ row
     is-row = getD-take (t .counts .instructions) (t .instructions) i null-instruction h
 

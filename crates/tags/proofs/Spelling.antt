@@ -58,8 +58,9 @@ tries-first t w =
 
 pub length-tag : (n : ℕ) → n < 2 ^ 32 → length (tag-name n) ≤ 15
 length-tag n h = elim (cases-eq n 1) [
-    inl e ↦ let l = ap length (tag-first n e) in omega arith
-  | inr e ↦ let l = ap length (tag-later n e) in let k = length-append temp (numeral n) in let m = length-numeral-le n h in omega arith ]
+  | inl e ↦ let l = ap length (tag-first n e) in omega arith
+  | inr e ↦ let l = ap length (tag-later n e) in let k = length-append temp (numeral n) in let m = length-numeral-le n h in omega arith
+]
 
 pub tag-some : (n : ℕ) → 0 < length (tag-name n)
 tag-some n = omega arith

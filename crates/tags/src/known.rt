@@ -6,8 +6,12 @@ ghost use Rattle.rules.specs.Names.{borne, known, names-of};
 ghost use Rattle.hir.specs.Tables.{tables};
 ghost use Rattle.hir.specs.View.{bears-name, identifier-view, instruction-view, rows, view};
 ghost use Rattle.hir.specs.WellFormed.{Identifier-fits, Name-if-fits, Well-formed};
-use hir::{Identifier, IdentifierName, Instruction, Store};
-use names::{name_bytes, same_bytes};
+use hir::Identifier;
+use hir::IdentifierName;
+use hir::Instruction;
+use hir::Store;
+use names::name_bytes;
+use ordered_table::same_bytes;
 
 fn identifier_bears(store: &Store<'_>, identifier: Identifier, name: &[u8]) -> bool
     requires room { ⌜ now store .counts .text ≤ length (now (now store .text)) ⌝ }

@@ -10,8 +10,12 @@ ghost use Rattle.hir.specs.WellFormed.{text-limit, Name-fits, Room, Well-formed
 ghost use Rattle.hir.specs.Frame.{Becomes};
 ghost use Rattle.names.specs.Made.{next-name};
 use super::known::is_known;
-use hir::{Name, Store, Tag};
-use names::{append_numbered, append_text, write_decimal};
+use hir::Name;
+use hir::Store;
+use hir::Tag;
+use names::append_numbered;
+use names::append_text;
+use names::write_decimal;
 
 // The longest tag: `_temp` and ten digits.
 const LONGEST: usize = 15;

@@ -68,8 +68,9 @@ both-once x xs a q (suc i) (suc j) d hi hj ne = q i j d (omega arith) (omega ari
 pub once-select : (p : ℕ → Bool) (xs : List ℕ) → Pairwise _≢_ xs → Pairwise _≢_ (select p xs)
 once-select p [] q = q
 once-select p (x ∷ xs) q = elim (p x) as (λ b. Pairwise _≢_ (elim b [ true ↦ x ∷ select p xs | false ↦ select p xs ])) [
-    true ↦ both-once x (select p xs) (all-select p (λ y. x ≢ y) xs (first-once x xs q)) (once-select p xs (rest-once x xs q))
-  | false ↦ once-select p xs (rest-once x xs q) ]
+  | true ↦ both-once x (select p xs) (all-select p (λ y. x ≢ y) xs (first-once x xs q)) (once-select p xs (rest-once x xs q))
+  | false ↦ once-select p xs (rest-once x xs q)
+]
 
 pub map-select : {A B : Type 0} (f : A → B) (p : B → Bool) (xs : List A) → map f (select (λ x. p (f x)) xs) ≡ select p (map f xs)
 map-select f p [] = refl
@@ -79,8 +80,10 @@ map-select f p (x ∷ xs) = elim (p (f x)) as (λ b. map f (elim b [ true ↦ x 
 module _ (test : InstructionV → Bool) (t : Tables) (first count i : ℕ) (fits : first + count ≤ length (t .numbers)) where
   abbrev list : List ℕ
   list = in-run (t .numbers) (run-of first count)
+
   abbrev pub so-far : List ℕ
   so-far = kept-of test t (take i list)
+
   list-size : length list ≡ count
   list-size = length-run (run-of first count) (t .numbers) fits
 

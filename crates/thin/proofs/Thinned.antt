@@ -27,8 +27,10 @@ use Rattle.thin.proofs.Front.{length-select, all-select, unlike-select, once-s
 module _ (test : InstructionV → Bool) (t : Tables) (w : Well-formed t) (f k : ℕ) (has : Has-block t f k) where
   abbrev run : Run
   run = block-of t f k .instructions
+
   abbrev list : List ℕ
   list = in-run (rows t .numbers) run
+
   abbrev p : ℕ → Bool
   p n = test (instruction-at (rows t) n)
 
@@ -48,8 +50,8 @@ module _ (test : InstructionV → Bool) (t : Tables) (w : Well-formed t) (f k : 
       let size = ap (λ (c : Counts). c .blocks) (sizes-are t (w .counted)) in
       let a = w .sound .blocks-apart i (block-number t f k) null-block (omega (arith, size)) (omega (arith, size, u)) ne in
       unlike-select p (in-run (rows t .numbers) (getD (t .blocks) i null-block .instructions)) list
-        (subst (λ (b : BasicBlock). Unlike (in-run (rows t .numbers) (b .instructions)) list) (block-is t w f k has i h)
-          (subst (λ (b : BasicBlock). Unlike (in-run (rows t .numbers) (getD (rows t .blocks) i null-block .instructions)) (in-run (rows t .numbers) (b .instructions))) (block-is t w f k has (block-number t f k) u) (a .rows)))
+      (subst (λ (b : BasicBlock). Unlike (in-run (rows t .numbers) (b .instructions)) list) (block-is t w f k has i h)
+      (subst (λ (b : BasicBlock). Unlike (in-run (rows t .numbers) (getD (rows t .blocks) i null-block .instructions)) (in-run (rows t .numbers) (b .instructions))) (block-is t w f k has (block-number t f k) u) (a .rows)))
 
   pub thinned-seen : view (with-thinned-list t f k (kept-numbers test t f k)) ≡ with-list (view t) f k (select test (rows-at (view t) f k))
   thinned-seen = view-thinned t w f k has (kept-numbers test t f k) thinned-short ∙ ap (with-list (view t) f k) (map-select (instruction-at (rows t)) test list ∙ ap (select test) (sym (list-seen t w f k has)))

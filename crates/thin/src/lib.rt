@@ -15,7 +15,10 @@ ghost use Rattle.hir.specs.WellFormed.{Readable, Well-formed};
 ghost use Rattle.hir.specs.Lists.{with-thinned-list, Has-block};
 ghost use Rattle.hir.specs.Frame.{Becomes};
 ghost use Rattle.thin.specs.Kept.{kept-numbers, kept-of, rewritten};
-use hir::{FunctionId, InstructionId, Run, Store};
+use hir::FunctionId;
+use hir::InstructionId;
+use hir::Run;
+use hir::Store;
 
 // What decides of each row whether it stays.
 pub trait Keeps {

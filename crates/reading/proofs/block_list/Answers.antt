@@ -34,4 +34,5 @@ returns c =
     record {
       numbers = e;
       seen = ap (instructions-at (rows t)) e ∙ sym (list-seen t (c .pre .well) f k (c .pre .has));
-      listed = subst (All (λ n. n < t .counts .instructions)) (sym e) (list-listed t (c .pre .well) f k (c .pre .has)) }
+      listed = subst (All (λ n. n < t .counts .instructions)) (sym e) (list-listed t (c .pre .well) f k (c .pre .has));
+    }

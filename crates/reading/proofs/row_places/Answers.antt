@@ -8,5 +8,6 @@ part-result-end c = let f = row-fits (tables (c .args .store .now)) (c .pre .rea
 
 pub returns : need.returns
 returns c = record {
-    seen = places-read (tables (c .args .store .now)) (c .pre .readable) (c .args .id .0) (c .pre .used);
-    fit = places-fit (tables (c .args .store .now)) (c .pre .readable) (c .args .id .0) (c .pre .used) }
+  seen = places-read (tables (c .args .store .now)) (c .pre .readable) (c .args .id .0) (c .pre .used);
+  fit = places-fit (tables (c .args .store .now)) (c .pre .readable) (c .args .id .0) (c .pre .used);
+}

@@ -30,11 +30,14 @@ keeps-requires-in-loop-i g c κs =
     let f : ℕ = c .args .run .first in
     let i : ℕ = c .loop-i .i in
     let e = c .loop-i .inv .0 in
-    let h : i < c .args .run .count = omega arith in
-    (subst Readable (sym e) (readable-still p t f (c .args .run .count) i (c .pre .fits) (omega arith) (c .pre .readable)),
-     (subst (λ (u : Tables). getD (u .numbers) (f + i) 0 < u .counts .instructions) (sym e)
-        (subst (λ m. m < t .counts .instructions) (sym (row-read p t f (c .args .run .count) i (c .pre .fits) h)) (row-used p t f (c .args .run .count) i (c .pre .fits) (λ m. m < t .counts .instructions) (c .pre .listed) h)),
-      subst (λ (u : Tables). g .K·Keeps .ready (c .args .keep .now) (u .counts)) (sym e) (c .pre .ready)))
+    let h : i < c .args .run .count = omega arith in (
+      subst Readable (sym e) (readable-still p t f (c .args .run .count) i (c .pre .fits) (omega arith) (c .pre .readable)),
+      (
+        subst (λ (u : Tables). getD (u .numbers) (f + i) 0 < u .counts .instructions) (sym e)
+            (subst (λ m. m < t .counts .instructions) (sym (row-read p t f (c .args .run .count) i (c .pre .fits) h)) (row-used p t f (c .args .run .count) i (c .pre .fits) (λ m. m < t .counts .instructions) (c .pre .listed) h)),
+        subst (λ (u : Tables). g .K·Keeps .ready (c .args .keep .now) (u .counts)) (sym e) (c .pre .ready),
+      ),
+    )
 
 pub add-store : need.add-store
 add-store g c =
@@ -71,22 +74,25 @@ loop-i-again g c =
     let e = c .loop-i .inv .0 in
     -- the test, of the row as it was listed at first
     let tested : c .keeps .result ≡ p (instruction-at (rows t) row) =
-        c .keeps .ensures ∙ ap (λ (v : Tables). p (instruction-at (rows v) (getD (v .numbers) (f + i) 0))) e ∙ ap (λ m. p (instruction-at (rows t) m)) (row-read p t f n i fits h) in
+    c .keeps .ensures ∙ ap (λ (v : Tables). p (instruction-at (rows v) (getD (v .numbers) (f + i) 0))) e ∙ ap (λ m. p (instruction-at (rows t) m)) (row-read p t f n i fits h) in
     elim (c .if-keeps .came) [
-      then-keeps w ↦
-        let stays = stays-more p t f n i fits h (sym tested ∙ w .if-keeps .taken) in
-        (ap tables (w .store-is)
-          ∙ ap (λ (v : Tables). hold-numbers v (v .counts) (set (v .numbers) (f + c .loop-i .front) (getD (v .numbers) (f + i) 0))) e
-          ∙ (λ k. hold-numbers t (t .counts) (set (paste (t .numbers) f xs (length xs)) (f + c .loop-i .inv .1 k) (row-read p t f n i fits h k)))
-          ∙ ap (hold-numbers t (t .counts)) (written-more p t f n i fits row h)
-          ∙ ap (rewritten t f) (sym stays),
-         w .front-is ∙ ap (λ m. m + 1) (c .loop-i .inv .1) ∙ sym (ap length stays ∙ length-push xs row),
-         (let b = c .loop-i .inv .2 in subst (λ s. Held s (c .args .store .now)) (sym (w .store-is)) (record { text = b .text; identifiers = b .identifiers; places = b .places; instructions = b .instructions; numbers = b .numbers; blocks = b .blocks; functions = b .functions; text-length = b .text-length; identifiers-length = b .identifiers-length; places-length = b .places-length; instructions-length = b .instructions-length; numbers-length = length-set (u .numbers) (f + c .loop-i .front) (getD (u .numbers) (f + i) 0) ∙ b .numbers-length; blocks-length = b .blocks-length; functions-length = b .functions-length })))
-    | else-keeps w ↦
-        let goes = goes-more p t f n i fits h (sym tested ∙ w .if-keeps .left) in
-        (ap tables (w .store-is) ∙ e ∙ ap (rewritten t f) (sym goes),
-         w .front-is ∙ c .loop-i .inv .1 ∙ ap length (sym goes),
-         subst (λ s. Held s (c .args .store .now)) (sym (w .store-is)) (c .loop-i .inv .2)) ]
+      | then-keeps w ↦
+          let stays = stays-more p t f n i fits h (sym tested ∙ w .if-keeps .taken) in (
+            ap tables (w .store-is)
+                ∙ ap (λ (v : Tables). hold-numbers v (v .counts) (set (v .numbers) (f + c .loop-i .front) (getD (v .numbers) (f + i) 0))) e
+                ∙ (λ k. hold-numbers t (t .counts) (set (paste (t .numbers) f xs (length xs)) (f + c .loop-i .inv .1 k) (row-read p t f n i fits h k)))
+                ∙ ap (hold-numbers t (t .counts)) (written-more p t f n i fits row h)
+                ∙ ap (rewritten t f) (sym stays),
+            w .front-is ∙ ap (λ m. m + 1) (c .loop-i .inv .1) ∙ sym (ap length stays ∙ length-push xs row),
+            (let b = c .loop-i .inv .2 in subst (λ s. Held s (c .args .store .now)) (sym (w .store-is)) (record { text = b .text; identifiers = b .identifiers; places = b .places; instructions = b .instructions; numbers = b .numbers; blocks = b .blocks; functions = b .functions; text-length = b .text-length; identifiers-length = b .identifiers-length; places-length = b .places-length; instructions-length = b .instructions-length; numbers-length = length-set (u .numbers) (f + c .loop-i .front) (getD (u .numbers) (f + i) 0) ∙ b .numbers-length; blocks-length = b .blocks-length; functions-length = b .functions-length })),
+          )
+      | else-keeps w ↦
+          let goes = goes-more p t f n i fits h (sym tested ∙ w .if-keeps .left) in (
+            ap tables (w .store-is) ∙ e ∙ ap (rewritten t f) (sym goes),
+            w .front-is ∙ c .loop-i .inv .1 ∙ ap length (sym goes),
+            subst (λ s. Held s (c .args .store .now)) (sym (w .store-is)) (c .loop-i .inv .2),
+          )
+    ]
 
 pub cast-result : need.cast-result
 cast-result g c =
@@ -103,4 +109,5 @@ returns g c =
     record {
       count = c .loop-i .inv .1 ∙ ap (λ (l : List ℕ). length (kept-of p t l)) all;
       writes = c .loop-i .inv .0 ∙ ap (λ (l : List ℕ). rewritten t (c .args .run .first) (kept-of p t l)) all;
-      held = c .loop-i .inv .2 }
+      held = c .loop-i .inv .2;
+    }

@@ -11,7 +11,9 @@ returns g c =
     let t : Tables = tables (a .store .now) in
     let p : InstructionV → Bool = g .K·Keeps .test (a .keep .now) in
     let e = c .write-thinned .ensures in
-    record { does = becomes (a .store .now) (c .write-thinned .last .store) _ _ (e .writes) (e .held)
-      (thinned-seen p t (c .pre .well) (a .function .0) (a .k) (c .pre .has))
-      (thinned-well p t (c .pre .well) (a .function .0) (a .k) (c .pre .has))
-      (thinned-kept p t (c .pre .well) (a .function .0) (a .k) (c .pre .has)) }
+    record {
+      does = becomes (a .store .now) (c .write-thinned .last .store) _ _ (e .writes) (e .held)
+          (thinned-seen p t (c .pre .well) (a .function .0) (a .k) (c .pre .has))
+          (thinned-well p t (c .pre .well) (a .function .0) (a .k) (c .pre .has))
+          (thinned-kept p t (c .pre .well) (a .function .0) (a .k) (c .pre .has));
+    }

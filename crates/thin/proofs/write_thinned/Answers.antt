@@ -38,7 +38,8 @@ gather-kept-count-requires g c κs =
       fits = omega (arith, o .instructions, w .counted .numbers .in-table);
       small = omega (arith, o .instructions, w .counted .numbers .in-limit);
       listed = subst (All (λ n. n < t .counts .instructions)) (list-whole (g .K·Keeps .test (c .args .keep .now)) t w (c .args .function .0) (c .args .k) (c .pre .has)) (list-listed t w (c .args .function .0) (c .args .k) (c .pre .has));
-      ready = c .pre .ready }
+      ready = c .pre .ready;
+    }
 
 pub index-store-at-2 : need.index-store-at-2
 index-store-at-2 g c =
@@ -55,6 +56,7 @@ returns g c =
     let over : Tables → ℕ → Tables = λ u m. over-block u n (listing-run (getD (u .blocks) n null-block) (record { first = getD (u .blocks) n null-block .instructions .first; count = m })) in
     record {
       writes = ap (λ (u : Tables). over u (c .gather-kept-count .result)) (e .writes)
-        ∙ ap (over (rewritten t (run .first) (kept-of p t (in-run (t .numbers) run)))) (e .count)
-        ∙ ap (λ (l : List ℕ). with-thinned-list t (c .args .function .0) (c .args .k) (kept-of p t l)) (sym (list-whole p t (c .pre .well) (c .args .function .0) (c .args .k) (c .pre .has)));
-      held = search needs }
+          ∙ ap (over (rewritten t (run .first) (kept-of p t (in-run (t .numbers) run)))) (e .count)
+          ∙ ap (λ (l : List ℕ). with-thinned-list t (c .args .function .0) (c .args .k) (kept-of p t l)) (sym (list-whole p t (c .pre .well) (c .args .function .0) (c .args .k) (c .pre .has)));
+      held = search needs;
+    }

@@ -28,4 +28,5 @@ returns c =
       fits = subst (λ (k : Counts). Name-fits k (c .write-text .result)) (sym (ap (λ (u : Tables). u .counts) (e .writes))) (subst (Name-fits _) (sym (e .at)) (made-fits t (c .pre .well) made room (c .pre .some)));
       spells = (λ i. spelt (view (e .writes i) .text) (e .at i)) ∙ spelt-made t (c .pre .well) made room;
       does = becomes (a .store .now) (c .write-text .last .store) _ _ (e .writes) (e .held)
-        (view-text t (c .pre .well) made room) (well-text t (c .pre .well) made room) (kept-text t made (room .in-table)) }
+          (view-text t (c .pre .well) made room) (well-text t (c .pre .well) made room) (kept-text t made (room .in-table));
+    }

@@ -12,7 +12,9 @@ returns c =
     let a = c .args in
     let t : Tables = tables (a .store .now) in
     let e = c .write-promoted .ensures in
-    record { does = becomes (a .store .now) (c .write-promoted .last .store) _ _ (e .writes) (e .held)
-      (view-promoted t (c .pre .well) (a .id .0) (c .pre .used) (c .pre .room))
-      (well-promoted t (c .pre .well) (a .id .0) (c .pre .used) (c .pre .room))
-      (kept-promoted t (c .pre .well) (a .id .0) (c .pre .used) (c .pre .room)) }
+    record {
+      does = becomes (a .store .now) (c .write-promoted .last .store) _ _ (e .writes) (e .held)
+          (view-promoted t (c .pre .well) (a .id .0) (c .pre .used) (c .pre .room))
+          (well-promoted t (c .pre .well) (a .id .0) (c .pre .used) (c .pre .room))
+          (kept-promoted t (c .pre .well) (a .id .0) (c .pre .used) (c .pre .room));
+    }

@@ -28,8 +28,8 @@ returns c =
     let l = length-spelt t (c .pre .well) b (c .pre .fits) in
     let size : c .write-decimal-end .result - n ≡ length (own ++ k) = omega (arith, c .write-decimal-end .ensures .end) in
     let written = c .write-decimal-end .ensures .text
-        ∙ ap (λ (l : List ℕ). paste l (n + b .len) k (length k)) (c .copy-onward .ensures ∙ ap (λ (l : List ℕ). paste (s .text .now) n l (b .len)) (sym (spelt-in t (c .pre .well) b (c .pre .fits))))
-        ∙ pasted-both (s .text .now) n (b .len) own k (sym l) (omega (arith, c .pre .room .in-table)) in
+    ∙ ap (λ (l : List ℕ). paste l (n + b .len) k (length k)) (c .copy-onward .ensures ∙ ap (λ (l : List ℕ). paste (s .text .now) n l (b .len)) (sym (spelt-in t (c .pre .well) b (c .pre .fits))))
+    ∙ pasted-both (s .text .now) n (b .len) own k (sym l) (omega (arith, c .pre .room .in-table)) in
     let writes = ap (hold-text t (s .counts)) written in
     let room : Room n (length (own ++ k)) (length (t .text)) text-limit = record { in-table = omega (arith, c .pre .room .in-table); in-limit = omega (arith, c .pre .room .in-limit) } in
     record {
@@ -37,4 +37,5 @@ returns c =
       writes = writes;
       seen = ap view writes ∙ view-spare t (c .pre .well) (own ++ k) room;
       well = subst Well-formed (sym writes) (well-spare t (c .pre .well) (own ++ k) room);
-      held = search needs }
+      held = search needs;
+    }

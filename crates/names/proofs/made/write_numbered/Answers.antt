@@ -27,4 +27,5 @@ returns c =
     record {
       at = c .take-text .ensures .at ∙ ap (λ (l : ℕ). let x : Name = record { start = n; len = l } in x) size;
       writes = λ i. hold-text (tables s) ((c .take-text .ensures .counts ∙ ap (more-text (s .counts)) size) i) (written i);
-      held = search needs }
+      held = search needs;
+    }

@@ -20,4 +20,5 @@ returns c =
     record {
       at = search needs;
       writes = λ i. hold-text (tables s) (c .take-text-name .ensures .counts i) ((p ∙ ap (λ v. paste (s .text .now) v xs (length xs)) a) i);
-      held = search needs }
+      held = search needs;
+    }

@@ -17,6 +17,7 @@ returns c =
       at = e .at;
       counted = c .put-on-borne .ensures .counted;
       does = becomes (a .store .now) (c .write-function .last .store) _ _ (e .writes ∙ ap (with-function t) (c .put-on-borne .ensures .borne)) (e .held)
-        (view-function t (c .pre .well) f (c .pre .room))
-        (well-function t (c .pre .well) f (c .pre .room) (c .pre .fits))
-        (kept-function t f) }
+          (view-function t (c .pre .well) f (c .pre .room))
+          (well-function t (c .pre .well) f (c .pre .room) (c .pre .fits))
+          (kept-function t f);
+    }

@@ -9,7 +9,10 @@ returns c =
     let a = c .args in
     let t : Tables = tables (a .store .now) in
     let e = c .write-instruction .ensures in
-    record { at = e .at; does = becomes (a .store .now) (c .write-instruction .last .store) _ _ (e .writes) (e .held)
-      (view-instruction t (c .pre .well) (a .instruction) (c .pre .room))
-      (well-instruction t (c .pre .well) (a .instruction) (c .pre .room) (c .pre .fits))
-      (kept-instruction t (a .instruction)) }
+    record {
+      at = e .at;
+      does = becomes (a .store .now) (c .write-instruction .last .store) _ _ (e .writes) (e .held)
+          (view-instruction t (c .pre .well) (a .instruction) (c .pre .room))
+          (well-instruction t (c .pre .well) (a .instruction) (c .pre .room) (c .pre .fits))
+          (kept-instruction t (a .instruction));
+    }

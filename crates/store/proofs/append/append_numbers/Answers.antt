@@ -9,7 +9,10 @@ returns c =
     let a = c .args in
     let t : Tables = tables (a .store .now) in
     let e = c .write-numbers .ensures in
-    record { at = e .at; does = becomes (a .store .now) (c .write-numbers .last .store) _ _ (e .writes) (e .held)
-      (view-numbers t (c .pre .well) (a .numbers .now) (c .pre .room))
-      (well-numbers t (c .pre .well) (a .numbers .now) (c .pre .room))
-      (kept-numbers t (a .numbers .now) (c .pre .room .in-table)) }
+    record {
+      at = e .at;
+      does = becomes (a .store .now) (c .write-numbers .last .store) _ _ (e .writes) (e .held)
+          (view-numbers t (c .pre .well) (a .numbers .now) (c .pre .room))
+          (well-numbers t (c .pre .well) (a .numbers .now) (c .pre .room))
+          (kept-numbers t (a .numbers .now) (c .pre .room .in-table));
+    }

@@ -9,7 +9,10 @@ returns c =
     let a = c .args in
     let t : Tables = tables (a .store .now) in
     let e = c .write-place .ensures in
-    record { at = e .at; does = becomes (a .store .now) (c .write-place .last .store) _ _ (e .writes) (e .held)
-      (view-place t (c .pre .well) (a .place) (c .pre .room))
-      (well-place t (c .pre .well) (a .place) (c .pre .room) (c .pre .fits))
-      (kept-place t (a .place)) }
+    record {
+      at = e .at;
+      does = becomes (a .store .now) (c .write-place .last .store) _ _ (e .writes) (e .held)
+          (view-place t (c .pre .well) (a .place) (c .pre .room))
+          (well-place t (c .pre .well) (a .place) (c .pre .room) (c .pre .fits))
+          (kept-place t (a .place));
+    }

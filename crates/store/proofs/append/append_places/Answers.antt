@@ -9,7 +9,10 @@ returns c =
     let a = c .args in
     let t : Tables = tables (a .store .now) in
     let e = c .write-places .ensures in
-    record { at = e .at; does = becomes (a .store .now) (c .write-places .last .store) _ _ (e .writes) (e .held)
-      (view-places t (c .pre .well) (a .places .now) (c .pre .room))
-      (well-places t (c .pre .well) (a .places .now) (c .pre .room) (c .pre .fits))
-      (kept-places t (a .places .now) (c .pre .room .in-table)) }
+    record {
+      at = e .at;
+      does = becomes (a .store .now) (c .write-places .last .store) _ _ (e .writes) (e .held)
+          (view-places t (c .pre .well) (a .places .now) (c .pre .room))
+          (well-places t (c .pre .well) (a .places .now) (c .pre .room) (c .pre .fits))
+          (kept-places t (a .places .now) (c .pre .room .in-table));
+    }

@@ -14,6 +14,7 @@ returns c =
       at = e .at;
       numbered = e .at ∙ identifiers-seen t (c .pre .well) (a .name) (c .pre .room);
       does = becomes (a .store .now) (c .write-identifier .last .store) _ _ (e .writes) (e .held)
-        (view-fresh t (c .pre .well) (a .name) (c .pre .room))
-        (well-identifier t (c .pre .well) (fresh-row t (c .pre .well) (a .name) (c .pre .room)) (c .pre .room) (c .pre .fits))
-        (kept-identifier t (fresh-row t (c .pre .well) (a .name) (c .pre .room))) }
+          (view-fresh t (c .pre .well) (a .name) (c .pre .room))
+          (well-identifier t (c .pre .well) (fresh-row t (c .pre .well) (a .name) (c .pre .room)) (c .pre .room) (c .pre .fits))
+          (kept-identifier t (fresh-row t (c .pre .well) (a .name) (c .pre .room)));
+    }

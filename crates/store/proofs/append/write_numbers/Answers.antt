@@ -20,4 +20,5 @@ returns c =
     record {
       at = search needs;
       writes = λ i. hold-numbers (tables s) (c .take-numbers-run .ensures .counts i) ((p ∙ ap (λ v. paste (s .numbers .now) v xs (length xs)) a) i);
-      held = search needs }
+      held = search needs;
+    }

@@ -20,4 +20,5 @@ returns c =
     record {
       at = search needs;
       writes = λ i. hold-places (tables s) (c .take-places-run .ensures .counts i) ((p ∙ ap (λ v. paste (s .places .now) v xs (length xs)) a) i);
-      held = search needs }
+      held = search needs;
+    }

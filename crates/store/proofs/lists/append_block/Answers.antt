@@ -8,7 +8,10 @@ returns c =
     let a = c .args in
     let t : Tables = tables (a .store .now) in
     let e = c .write-block .ensures in
-    record { at = e .at; does = becomes (a .store .now) (c .write-block .last .store) _ _ (e .writes) (e .held)
-      (view-listed-block t (c .pre .well) (a .block) (a .list .now) (c .pre .numbers) (c .pre .blocks) (c .pre .fits))
-      (well-listed-block t (c .pre .well) (a .block) (a .list .now) (c .pre .numbers) (c .pre .blocks) (c .pre .fits))
-      (kept-listed-block t (c .pre .well) (a .block) (a .list .now) (c .pre .numbers) (c .pre .blocks) (c .pre .fits)) }
+    record {
+      at = e .at;
+      does = becomes (a .store .now) (c .write-block .last .store) _ _ (e .writes) (e .held)
+          (view-listed-block t (c .pre .well) (a .block) (a .list .now) (c .pre .numbers) (c .pre .blocks) (c .pre .fits))
+          (well-listed-block t (c .pre .well) (a .block) (a .list .now) (c .pre .numbers) (c .pre .blocks) (c .pre .fits))
+          (kept-listed-block t (c .pre .well) (a .block) (a .list .now) (c .pre .numbers) (c .pre .blocks) (c .pre .fits));
+    }

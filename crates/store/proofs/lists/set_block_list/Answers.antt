@@ -16,7 +16,9 @@ returns c =
     let a = c .args in
     let t : Tables = tables (a .store .now) in
     let e = c .write-list .ensures in
-    record { does = becomes (a .store .now) (c .write-list .last .store) _ _ (e .writes) (e .held)
-      (view-new-list t (c .pre .well) (a .function .0) (a .k) (c .pre .has) (a .list .now) (c .pre .room))
-      (well-new-list t (c .pre .well) (a .function .0) (a .k) (c .pre .has) (a .list .now) (c .pre .room) (c .pre .fits) (c .pre .unlisted))
-      (kept-new-list t (c .pre .well) (a .function .0) (a .k) (c .pre .has) (a .list .now) (c .pre .room)) }
+    record {
+      does = becomes (a .store .now) (c .write-list .last .store) _ _ (e .writes) (e .held)
+          (view-new-list t (c .pre .well) (a .function .0) (a .k) (c .pre .has) (a .list .now) (c .pre .room))
+          (well-new-list t (c .pre .well) (a .function .0) (a .k) (c .pre .has) (a .list .now) (c .pre .room) (c .pre .fits) (c .pre .unlisted))
+          (kept-new-list t (c .pre .well) (a .function .0) (a .k) (c .pre .has) (a .list .now) (c .pre .room));
+    }

@@ -6,8 +6,9 @@ use Rattle.tags.proofs.known.some_identifier_bears.Needs as need
 
 pub identifier-bears-requires : need.identifier-bears-requires
 identifier-bears-requires c κs = record {
-    room = omega (arith, c .pre .counted .text .in-table);
-    fits = identifier-fits (tables (c .args .store .now)) (c .pre) (c .args .name .now) (c .loop-i .i) (omega arith) }
+  room = omega (arith, c .pre .counted .text .in-table);
+  fits = identifier-fits (tables (c .args .store .now)) (c .pre) (c .args .name .now) (c .loop-i .i) (omega arith);
+}
 
 pub returns-then-identifier-bears : need.returns-then-identifier-bears
 returns-then-identifier-bears c =

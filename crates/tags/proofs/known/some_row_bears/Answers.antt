@@ -6,8 +6,9 @@ use Rattle.tags.proofs.known.some_row_bears.Needs as need
 
 pub row-bears-requires : need.row-bears-requires
 row-bears-requires c κs = record {
-    room = omega (arith, c .pre .counted .text .in-table);
-    fits = row-fits (tables (c .args .store .now)) (c .pre) (c .args .name .now) (c .loop-i .i) (omega arith) .name }
+  room = omega (arith, c .pre .counted .text .in-table);
+  fits = row-fits (tables (c .args .store .now)) (c .pre) (c .args .name .now) (c .loop-i .i) (omega arith) .name;
+}
 
 pub returns-then-row-bears : need.returns-then-row-bears
 returns-then-row-bears c =

@@ -39,4 +39,5 @@ returns c =
       fits = subst (λ (k : Counts). Name-fits k (c .take-tag .result .name)) (sym (ap (λ (v : Tables). v .counts) writes)) (subst (λ (x : Tag). Name-fits (tag-taken (with-text t made .counts) n) (x .name)) (sym tag) (record { some = fit .some; inside = fit .inside }));
       spells = (λ i. spelt (view (writes i) .text) (tag i .name)) ∙ spelt-made t w made room;
       bound = subst (λ (x : Tag). x .number ≤ s .counts .«tag_mark» + 131072) (sym (c .take-tag .ensures .tag)) (c .next-tag-number-number .ensures .bound);
-      does = becomes s _ _ _ writes (search needs) (view-tag t w room) (well-tag (with-text t made) (well-text t w made room) n) (kept-then (kept-text t made (room .in-table)) (kept-tag (with-text t made) n)) }
+      does = becomes s _ _ _ writes (search needs) (view-tag t w room) (well-tag (with-text t made) (well-text t w made room) n) (kept-then (kept-text t made (room .in-table)) (kept-tag (with-text t made) n));
+    }

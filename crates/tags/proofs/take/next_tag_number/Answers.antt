@@ -22,4 +22,5 @@ returns-else-tag-known c =
     let w = c .pre .well .counted in
     record {
       number = sym (tries-stop (c .loop-tries .tries) (known h) (c .loop-tries .number) (omega arith) (sym (c .tag-known .ensures) ∙ c .if-tag-known .left)) ∙ c .loop-tries .inv .0;
-      bound = omega (arith, c .loop-tries .inv .1, w .identifiers .in-limit, w .instructions .in-limit) }
+      bound = omega (arith, c .loop-tries .inv .1, w .identifiers .in-limit, w .instructions .in-limit);
+    }

@@ -30,4 +30,5 @@ returns c =
     let r : c .write-decimal .result ≡ 0 + length (temp ++ k) = omega (arith, c .write-decimal .ensures .end) in
     record {
       within = omega (arith, c .write-decimal .ensures .end);
-      spells = (λ i. take (r i) (written i)) ∙ take-written b 0 (temp ++ k) (omega (arith, c .pre)) ∙ sym (tag-later (c .args .number) (c .if-number-eq1 .left)) }
+      spells = (λ i. take (r i) (written i)) ∙ take-written b 0 (temp ++ k) (omega (arith, c .pre)) ∙ sym (tag-later (c .args .number) (c .if-number-eq1 .left));
+    }

@@ -1,6 +1,6 @@
 use Rattle.rules.proofs.Naming.{same-refl}
 use Rattle.ordered_table.proofs.SameBytes.{same-flip, same-chain}
-use Rattle.hir.specs.Keys.{spelt}
+use Rattle.hir.specs.View.{spelt}
 use Rattle.hir.proofs.keys.NameKey.the-impl.Needs as need
 
 pub reflexive-law : need.reflexive-law
