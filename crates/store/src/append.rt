@@ -101,9 +101,8 @@ pub(super) fn write_numbers(store: &mut Store<'_>, numbers: &[u32]) -> Run
 {
     let run = store.counts.take_numbers(numbers.len() as u32);
     let at = run.first as usize;
-    store
-        .numbers[at..at + numbers.len()]
-        .copy_from_slice(numbers);
+    let end = at + numbers.len();
+    store.numbers[at..end].copy_from_slice(numbers);
     run
 }
 
