@@ -13,7 +13,7 @@ use Rattle.hir.specs.declared.rows.Place.{Place}
 use Rattle.hir.specs.declared.rows.Instruction.{Instruction}
 use Rattle.hir.specs.declared.rows.BasicBlock.{BasicBlock}
 use Rattle.hir.specs.declared.rows.HirFunction.{HirFunction}
-use Rattle.hir.specs.Tables.{Tables, Held, hold-numbers, with-identifier, with-place, with-instruction, with-block, with-function, with-text, with-places, with-numbers, with-tag, over-identifier, over-block}
+use Rattle.hir.specs.Tables.{Tables, Held, hold-numbers, with-identifier, with-instruction, with-block, with-function, with-text, with-places, with-numbers, with-tag, over-identifier, over-block}
 use Rattle.hir.specs.View.{Rows, rows, null-identifier, null-block}
 use Rattle.hir.specs.Frame.{Onward, All-onward, Kept, onwards, whole, declaration-of, without-list, nothing-of}
 use Rattle.hir.proofs.Runs.{drop-less}
@@ -97,9 +97,6 @@ module _ (t : Tables) where
 
   pub kept-identifier : (x : Identifier) → Kept t (with-identifier t x)
   kept-identifier x = onwards (record { text = same .text; identifiers = onward-set declaration-of (t .counts .identifiers) (t .identifiers) x; places = same .places; instructions = same .instructions; numbers = same .numbers; blocks = same .blocks; functions = same .functions })
-
-  pub kept-place : (x : Place) → Kept t (with-place t x)
-  kept-place x = onwards (record { text = same .text; identifiers = same .identifiers; places = onward-set (whole {A = Place}) (t .counts .places) (t .places) x; instructions = same .instructions; numbers = same .numbers; blocks = same .blocks; functions = same .functions })
 
   pub kept-instruction : (x : Instruction) → Kept t (with-instruction t x)
   kept-instruction x = onwards (record { text = same .text; identifiers = same .identifiers; places = same .places; instructions = onward-set (whole {A = Instruction}) (t .counts .instructions) (t .instructions) x; numbers = same .numbers; blocks = same .blocks; functions = same .functions })

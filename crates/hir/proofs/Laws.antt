@@ -23,7 +23,7 @@ use Rattle.hir.specs.declared.rows.Instruction.{Instruction}
 use Rattle.hir.specs.declared.rows.BasicBlock.{BasicBlock}
 use Rattle.hir.specs.declared.rows.HirFunction.{HirFunction}
 use Rattle.hir.specs.Used.{in-run}
-use Rattle.hir.specs.Tables.{Tables, with-identifier, with-place, with-instruction, with-block, with-function, with-text, with-places, with-numbers, with-tag}
+use Rattle.hir.specs.Tables.{Tables, with-identifier, with-instruction, with-block, with-function, with-text, with-places, with-numbers, with-tag}
 use Rattle.hir.specs.View.{Rows, rows, sizes, put-text, put-identifiers, put-places, put-instructions, put-numbers, put-blocks, put-functions, name-view, identifier-view, instruction-view, function-view, bears-name, seen, view, with-row-taken}
 use Rattle.hir.specs.WellFormed.{Room, text-limit, identifiers-limit, places-limit, instructions-limit, numbers-limit, blocks-limit, functions-limit, Identifier-name-fits, Identifier-fits, Place-fits, Instruction-fits, Block-fits, Function-fits, Blocks-apart, Functions-apart, Pairwise, Sound, Counted, Well-formed}
 use Rattle.hir.specs.Lists.{Function-fits-in}
@@ -103,29 +103,6 @@ module _ (t : Tables) (w : Well-formed t) where
 
     pub well-identifier : Identifier-fits (t .counts) x → Well-formed u-identifier
     well-identifier fit = sound-tables u-identifier s-identifier counted-identifier rows-identifier (sound-grown r s-identifier ext-identifier sound (identifier-grows (sizes r) (sizes s-identifier) (extends-more r s-identifier ext-identifier) x (x .name) (subst (λ c. Identifier-fits c x) sized fit), tt) tt tt tt tt (w .sound .blocks-apart) (w .sound .functions-apart))
-
-  -- a place
-  module _ (x : Place) (room : Room (t .counts .places) (1) (length (t .places)) places-limit) where
-    abbrev u-place : Tables
-    u-place = with-place t x
-
-    abbrev s-place : Rows
-    s-place = put-places r (r .places ++ (x ∷ []))
-
-    abbrev ext-place : Extends r s-place
-    ext-place = record { text = prefix-same (r .text); identifiers = prefix-same (r .identifiers); places = (x ∷ [], refl); instructions = prefix-same (r .instructions); numbers = prefix-same (r .numbers); blocks = prefix-same (r .blocks); functions = prefix-same (r .functions) }
-
-    pub rows-place : rows u-place ≡ s-place
-    rows-place = ap (put-places r) (take-more-set (t .places) (t .counts .places) x (omega (arith, room .in-table)))
-
-    counted-place : Counted u-place
-    counted-place = record { text = w .counted .text; identifiers = w .counted .identifiers; places = room-after (t .counts .places) (1) (length (t .places)) places-limit (length (u-place .places)) room (length-set (t .places) (t .counts .places) x); instructions = w .counted .instructions; numbers = w .counted .numbers; blocks = w .counted .blocks; functions = w .counted .functions }
-
-    pub view-place : view u-place ≡ view t
-    view-place = ap seen rows-place ∙ view-grown r s-place ext-place sound ∙ more-none (view t)
-
-    pub well-place : Place-fits (t .counts) x → Well-formed u-place
-    well-place fit = sound-tables u-place s-place counted-place rows-place (sound-grown r s-place ext-place sound tt (place-grows (sizes r) (sizes s-place) (extends-more r s-place ext-place) x (subst (λ c. Place-fits c x) sized fit), tt) tt tt tt (w .sound .blocks-apart) (w .sound .functions-apart))
 
   -- several places
   module _ (xs : List Place) (room : Room (t .counts .places) (length xs) (length (t .places)) places-limit) where

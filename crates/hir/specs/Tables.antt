@@ -82,9 +82,6 @@ hold-functions t c l = record { counts = c; text = t .text; identifiers = t .ide
 abbrev pub with-identifier : Tables → Identifier → Tables
 with-identifier t x = hold-identifiers t (more-identifiers (t .counts) 1) (set (t .identifiers) (t .counts .identifiers) x)
 
-abbrev pub with-place : Tables → Place → Tables
-with-place t x = hold-places t (more-places (t .counts) 1) (set (t .places) (t .counts .places) x)
-
 abbrev pub with-instruction : Tables → Instruction → Tables
 with-instruction t x = hold-instructions t (more-instructions (t .counts) 1) (set (t .instructions) (t .counts .instructions) x)
 

@@ -5,7 +5,7 @@ ghost use lib.ListN.{length};
 ghost use Rattle.std.specs.shelf.Lists.{All};
 ghost use Rattle.rules.specs.Views.{with-functions};
 ghost use Rattle.rules.specs.Props.{fresh};
-ghost use Rattle.hir.specs.Tables.{tables, with-function, with-identifier, with-instruction, with-numbers, with-place, with-places, Held};
+ghost use Rattle.hir.specs.Tables.{tables, with-function, with-identifier, with-instruction, with-numbers, with-places, Held};
 ghost use Rattle.hir.specs.View.{function-view, instruction-view, name-view, rows, view, with-row-taken};
 ghost use Rattle.hir.specs.WellFormed.{functions-limit, identifiers-limit, instructions-limit, numbers-limit, places-limit, Identifier-name-fits, Instruction-fits, Place-fits, Room, Well-formed};
 ghost use Rattle.hir.specs.Lists.{Function-fits-in};
@@ -26,28 +26,6 @@ use hir::Tag;
 
 // Each append has a part that only writes, and asks for room alone.
 
-fn write_place(store: &mut Store<'_>, place: Place) -> u32
-    requires { ⌜ Room (now store .counts .places) 1 (length (now (now store .places))) places-limit ⌝ }
-    ensures at { λ r. ⌜ r ≡ now (store .entry) .counts .places ⌝ }
-    ensures writes { λ _. ⌜ tables (now (store .exit)) ≡ with-place (tables (now (store .entry))) place ⌝ }
-    ensures held { λ _. ⌜ Held (now (store .exit)) (now (store .entry)) ⌝ }
-{
-    let at = store.counts.take_places(1).first;
-    store.places[at as usize] = place;
-    at
-}
-
-// A place. Nothing that was seen changes.
-pub fn append_place(store: &mut Store<'_>, place: Place) -> u32
-    requires well { ⌜ Well-formed (tables (now store)) ⌝ }
-    requires room { ⌜ Room (now store .counts .places) 1 (length (now (now store .places))) places-limit ⌝ }
-    requires fits { ⌜ Place-fits (now store .counts) place ⌝ }
-    ensures at { λ r. ⌜ r ≡ now (store .entry) .counts .places ⌝ }
-    ensures does { λ _. ⌜ Becomes (now (store .entry)) (now (store .exit)) (with-place (tables (now (store .entry))) place) (view (tables (now (store .entry)))) ⌝ }
-{
-    write_place(store, place)
-}
-
 fn write_places(store: &mut Store<'_>, places: &[Place]) -> Run
     requires { ⌜ Room (now store .counts .places) (length (now places)) (length (now (now store .places))) places-limit ⌝ }
     ensures at { λ r. ⌜ r ≡ record { first = now (store .entry) .counts .places; count = length (now (places .entry)) } ⌝ }
@@ -60,7 +38,7 @@ fn write_places(store: &mut Store<'_>, places: &[Place]) -> Run
     run
 }
 
-// Several places, as one run.
+// Places, as one run. Nothing that was seen changes.
 pub fn append_places(store: &mut Store<'_>, places: &[Place]) -> Run
     requires well { ⌜ Well-formed (tables (now store)) ⌝ }
     requires room { ⌜ Room (now store .counts .places) (length (now places)) (length (now (now store .places))) places-limit ⌝ }
@@ -69,6 +47,17 @@ pub fn append_places(store: &mut Store<'_>, places: &[Place]) -> Run
     ensures does { λ _. ⌜ Becomes (now (store .entry)) (now (store .exit)) (with-places (tables (now (store .entry))) (now (places .entry))) (view (tables (now (store .entry)))) ⌝ }
 {
     write_places(store, places)
+}
+
+// One place.
+pub fn append_place(store: &mut Store<'_>, place: Place) -> u32
+    requires well { ⌜ Well-formed (tables (now store)) ⌝ }
+    requires room { ⌜ Room (now store .counts .places) 1 (length (now (now store .places))) places-limit ⌝ }
+    requires fits { ⌜ Place-fits (now store .counts) place ⌝ }
+    ensures at { λ r. ⌜ r ≡ now (store .entry) .counts .places ⌝ }
+    ensures does { λ _. ⌜ Becomes (now (store .entry)) (now (store .exit)) (with-places (tables (now (store .entry))) (place ∷ [])) (view (tables (now (store .entry)))) ⌝ }
+{
+    append_places(store, &[place]).first
 }
 
 fn write_instruction(store: &mut Store<'_>, instruction: Instruction) -> InstructionId
