@@ -1,4 +1,6 @@
 //! Refusal 9: how much an outline may take of each table, counted on the functions that it walks.
+#![tactic(auto)]
+
 
 use hir::{FunctionId, Instruction, InstructionId, Store};
 

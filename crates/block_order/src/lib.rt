@@ -1,4 +1,6 @@
 //! Refusal 5: in each block phis come first, orders rise, and elements are at most 256.
+#![tactic(auto)]
+
 
 ghost use Rattle.std.specs.Prelude.{◌≡◌, ℕ, ◌<◌, false, length, MatchBool, ◌==◌};
 ghost use Rattle.std.specs.List.{AllByRecursion as All};

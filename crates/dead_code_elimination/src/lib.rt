@@ -1,5 +1,7 @@
 //! Eliminations: what drops rows from the lists of a function. The Rust calls its `dead_code_elimination` after each block that it has
 //! rewritten; here that pass is a parameter, and anything that keeps the laws may stand for it.
+#![tactic(auto)]
+
 
 ghost use Rattle.std.specs.Prelude.{◌≡◌, length};
 ghost use Rattle.rules.specs.Views.{with_list};

@@ -1,4 +1,5 @@
 //! The tables of a screen: the rows as plain data, the store that holds them in lent memory, and what it says (specs/View.antt).
+#![tactic(auto)]
 
 mod counts;
 mod keys;

@@ -1,4 +1,6 @@
 //! Refusal 7: no element has a child whose identifier is named key.
+#![tactic(auto)]
+
 
 ghost use Rattle.std.specs.Prelude.{◌≡◌, ℕ, ◌<◌, map, length, MatchBool, slice_index};
 ghost use Rattle.std.specs.List.{AllByRecursion as All};

@@ -1,5 +1,7 @@
 //! Refusal 3, as far as rows are compared with one another: no list number stands in two runs, no block in two functions, and no row is
 //! listed twice. Marks are working memory, all zero at first.
+#![tactic(auto)]
+
 
 ghost use Rattle.std.specs.Prelude.{ℕ, ◌≤◌, length, MatchBool};
 ghost use Rattle.hir.specs.Tables.{tables};

@@ -1,4 +1,6 @@
 //! The rows of a list, one by one.
+#![tactic(auto)]
+
 
 ghost use Rattle.std.specs.Prelude.{◌≡◌, ℕ, ◌<◌, length, slice_index};
 ghost use Rattle.std.specs.List.{AllByRecursion as All};

@@ -1,5 +1,6 @@
 //! One ordered table for every kind of key, over memory that the caller lends: the source's `OrderedMap` and `FxIndexMap`.
 //! It keeps distinct keys in the order of their first insertion.
+#![tactic(auto)]
 
 ghost use Rattle.std.specs.Prelude.{◌≤◌, length};
 

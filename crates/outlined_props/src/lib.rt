@@ -1,5 +1,7 @@
 //! What a group of nested JSX rows is gathered into: its props, the fresh places that they are bound to, and the rows of its call. Types
 //! alone; specs/ says what they show.
+#![tactic(auto)]
+
 
 use hir::{IdentifierId, InstructionId, Name, Place};
 

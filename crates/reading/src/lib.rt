@@ -1,4 +1,6 @@
 //! Reading a well-formed store: a row's places, a block's list.
+#![tactic(auto)]
+
 ghost use Rattle.std.specs.Prelude.{◌≡◌, ℕ, ◌<◌, map};
 ghost use Rattle.std.specs.List.{AllByRecursion as All};
 ghost use Rattle.rules.specs.Views.{rows_at};

@@ -1,5 +1,7 @@
 //! Reads screens parted by lines of two dashes, and writes the dump of each, or why it is not read. What is expected
 //! of good screens was written by a program that holds the original pass; of bad ones, by hand.
+#![tactic(auto)]
+
 
 use comma_lines::read;
 use screen_text::dump;

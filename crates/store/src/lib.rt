@@ -1,5 +1,7 @@
 //! Writing a store: rows appended, a block given another list. Each call says what it writes byte for byte, what the store then says, and
 //! that it is still well formed.
+#![tactic(auto)]
+
 
 mod append;
 mod lists;

@@ -1,4 +1,6 @@
 //! Making a block's list shorter in its own place: what is kept moves to the list's front. The rows past it are nobody's.
+#![tactic(auto)]
+
 ghost use Rattle.std.specs.Prelude.{◌≡◌, ℕ, ◌+◌, ◌<◌, ◌≤◌, Bool, length};
 ghost use Rattle.std.proofs.Math.Seq.{paste};
 ghost use Rattle.std.specs.List.{AllByRecursion as All};

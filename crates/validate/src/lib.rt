@@ -1,4 +1,6 @@
 //! The check that comes before an outline: the first refusal that fits, or the allowances.
+#![tactic(auto)]
+
 
 ghost use Rattle.hir.specs.Tables.{tables};
 ghost use Rattle.hir.specs.WellFormed.{Counted};
