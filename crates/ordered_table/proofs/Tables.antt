@@ -39,21 +39,21 @@ module _ {K V : Type 0} (e : K → K → Bool) (t : OrderedTable K V) (k : K) (i
 
   -- an insertion of `v` that answers `r` and leaves `u`: into the key's own entry, past the last one, or not at all
   module _ (v : V) (r : Result (Option V) Full) (u : OrderedTable K V) where
-    pub replaced : (d : Entry K V) → i < t.len → r ≡ Ok (Some (get_or (now t.entries) i d).value) → u.len ≡ t.len
-        → now u.entries ≡ set (now t.entries) i (record { key = (get_or (now t.entries) i d).key; value = v })
+    pub replaced : (d : Entry K V) → i < t.len → r ≡ Ok (Some (get_or t.entries.now i d).value) → u.len ≡ t.len
+        → u.entries.now ≡ set t.entries.now i (record { key = (get_or t.entries.now i d).key; value = v })
         → Insertion e t k v r u
     replaced d h answer same is =
         let w = there_at h in
         let fits : takes e t k ≡ true = simp w.listed in
         record {
           answers = answer ∙ simp (fits, look_at h d);
-          holds = simp (answer, same, is) (take_set_in t.len i (now t.entries) _ ∙ sym (w.puts d v ∙ simp (sym found, get_or-take t.len (now t.entries) i d h)));
-          spare = simp (same, is) (drop-set-lt t.len (now t.entries) i _ h);
-          same_room = simp is (length-set (now t.entries) i _);
+          holds = simp (answer, same, is) (take_set_in t.len i t.entries.now _ ∙ sym (w.puts d v ∙ simp (sym found, get_or-take t.len t.entries.now i d h)));
+          spare = simp (same, is) (drop-set-lt t.len t.entries.now i _ h);
+          same_room = simp is (length-set t.entries.now i _);
         }
 
     pub added : t.len ≤ i → t.len < room t → r ≡ Ok None → u.len ≡ t.len + 1
-        → now u.entries ≡ set (now t.entries) t.len (record { key = k; value = v })
+        → u.entries.now ≡ set t.entries.now t.len (record { key = k; value = v })
         → Insertion e t k v r u
     added h l answer more is =
         let w = missing_at h in
@@ -62,9 +62,9 @@ module _ {K V : Type 0} (e : K → K → Bool) (t : OrderedTable K V) (k : K) (i
         let m : t.len < t.len + 1 = omega arith in
         record {
           answers = answer ∙ simp (fits, w.looked);
-          holds = simp (answer, more, is) (take_more_set (now t.entries) t.len _ l ∙ sym (w.puts v));
-          spare = simp (more, is) (drop-set-lt (t.len + 1) (now t.entries) t.len _ m);
-          same_room = simp is (length-set (now t.entries) t.len _);
+          holds = simp (answer, more, is) (take_more_set t.entries.now t.len _ l ∙ sym (w.puts v));
+          spare = simp (more, is) (drop-set-lt (t.len + 1) t.entries.now t.len _ m);
+          same_room = simp is (length-set t.entries.now t.len _);
         }
 
     pub refused : t.len ≤ i → room t ≤ t.len → r ≡ Err (record {}) → u.len ≡ t.len → u.entries.now ≡ t.entries.now → Insertion e t k v r u
