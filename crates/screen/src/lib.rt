@@ -1,7 +1,6 @@
 //! A screen that owns its tables, to be lent to one call after another.
 #![tactic(auto)]
 
-
 ghost use Rattle.std.specs.Prelude.{◌≡◌, IfSome};
 ghost use Rattle.screen.specs.Lent.{all_used, no_rows, Lent};
 

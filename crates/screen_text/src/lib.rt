@@ -1,7 +1,6 @@
 //! A store as text: the canonical dump, which two builds can be compared by, and a form for people.
 #![tactic(auto)]
 
-
 mod dumping;
 mod print_error;
 mod showing;

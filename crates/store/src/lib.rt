@@ -2,7 +2,6 @@
 //! that it is still well formed.
 #![tactic(auto)]
 
-
 mod append;
 mod lists;
 

@@ -1,7 +1,6 @@
 //! Ordered tables over identifiers and over names, in the words of the rules.
 #![tactic(auto)]
 
-
 ghost use Rattle.std.specs.Prelude.{◌≡◌, map};
 ghost use Rattle.hir.specs.Keys.{same_number};
 ghost use Rattle.hir.specs.View.{spelt};

@@ -6,8 +6,8 @@ use Rattle.hir.proofs.Listed.{block_used, block_fits_at}
 use Rattle.hir.proofs.Seen.{list_seen, list_read, list_listed}
 use Rattle.reading.proofs.block_list.Goals as goal
 
-pub overflow-add-at : goal.overflow-add-at
-overflow-add-at c =
+pub overflow_add-at : goal.overflow_add-at
+overflow_add-at c =
     let u = block_used (tables c.args.store.now) c.requires.well c.args.function.0 c.args.k c.requires.has in
     omega (arith, u, c.requires.well.counted.blocks.in_limit)
 
@@ -16,8 +16,8 @@ bounds-store-at c =
     let u = block_used (tables c.args.store.now) c.requires.well c.args.function.0 c.args.k c.requires.has in
     omega (arith, u, c.requires.well.counted.blocks.in_table)
 
-pub slice-bounds-result-end : goal.slice-bounds-result-end
-slice-bounds-result-end c =
+pub slice_bounds-result-end : goal.slice_bounds-result-end
+slice_bounds-result-end c =
     let f = block_fits_at (tables c.args.store.now) c.requires.well c.args.function.0 c.args.k c.requires.has in
     omega (arith, f.instructions, c.requires.well.counted.numbers.in_table)
 

@@ -33,13 +33,13 @@ keeps-requires-in-loop-i g c =
       ),
     )
 
-pub overflow-add-store : goal.overflow-add-store
-overflow-add-store g c =
+pub overflow_add-store : goal.overflow_add-store
+overflow_add-store g c =
     let l = so_far_le (g.K.Keeps.test c.args.keep.now) (tables c.args.store.now) c.args.run.first c.args.run.count c.loop-i.i c.requires.fits (omega arith) in
     omega (arith, l, c.loop-i.invariant.1, c.requires.small)
 
-pub offset-bounds-store-first-then-keeps : goal.offset-bounds-store-first-then-keeps
-offset-bounds-store-first-then-keeps g c =
+pub offset_bounds-store-first-then-keeps : goal.offset_bounds-store-first-then-keeps
+offset_bounds-store-first-then-keeps g c =
     let l = so_far_le (g.K.Keeps.test c.args.keep.now) (tables c.args.store.now) c.args.run.first c.args.run.count c.loop-i.i c.requires.fits (omega arith) in
     omega (arith, l, c.loop-i.invariant.1, c.requires.small)
 
@@ -48,8 +48,8 @@ bounds-store-first-then-keeps g c =
     let l = so_far_le (g.K.Keeps.test c.args.keep.now) (tables c.args.store.now) c.args.run.first c.args.run.count c.loop-i.i c.requires.fits (omega arith) in
     omega (arith, l, c.loop-i.invariant.1, c.requires.fits, c.loop-i.invariant.2.numbers_length)
 
-pub overflow-add-front : goal.overflow-add-front
-overflow-add-front g c =
+pub overflow_add-front : goal.overflow_add-front
+overflow_add-front g c =
     let l = so_far_le (g.K.Keeps.test c.args.keep.now) (tables c.args.store.now) c.args.run.first c.args.run.count c.loop-i.i c.requires.fits (omega arith) in
     omega (arith, l, c.loop-i.invariant.1, c.requires.small)
 
@@ -88,8 +88,8 @@ loop-i-preserved g c =
           )
     ]
 
-pub overflow-cast-result : goal.overflow-cast-result
-overflow-cast-result g c =
+pub overflow_cast-result : goal.overflow_cast-result
+overflow_cast-result g c =
     let l = so_far_le (g.K.Keeps.test c.args.keep.now) (tables c.args.store.now) c.args.run.first c.args.run.count c.loop-i.i c.requires.fits (omega arith) in
     omega (arith, l, c.loop-i.invariant.1, c.requires.small)
 

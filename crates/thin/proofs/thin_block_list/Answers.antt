@@ -10,9 +10,9 @@ returns g c =
     let a = c.args in
     let t : Tables = tables a.store.now in
     let p : InstructionV → Bool = g.K.Keeps.test a.keep.now in
-    let e = c.write-thinned.ensures in
+    let e = c.write_thinned.ensures in
     record {
-      does = becomes a.store.now c.write-thinned.new.store _ _ e.writes e.held
+      does = becomes a.store.now c.write_thinned.new.store _ _ e.writes e.held
           (thinned_seen p t c.requires.well a.function.0 a.k c.requires.has)
           (thinned_well p t c.requires.well a.function.0 a.k c.requires.has)
           (thinned_kept p t c.requires.well a.function.0 a.k c.requires.has);

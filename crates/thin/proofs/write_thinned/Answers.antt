@@ -12,8 +12,8 @@ use Rattle.thin.specs.Kept.{kept_of, rewritten}
 use Rattle.thin.proofs.Thinned.{list_whole}
 use Rattle.thin.proofs.write_thinned.Goals as goal
 
-pub overflow-add-at : goal.overflow-add-at
-overflow-add-at g c =
+pub overflow_add-at : goal.overflow_add-at
+overflow_add-at g c =
     let u = block_used (tables c.args.store.now) c.requires.well c.args.function.0 c.args.k c.requires.has in
     omega (arith, u, c.requires.well.counted.blocks.in_limit)
 
@@ -22,8 +22,8 @@ bounds-store-at g c =
     let u = block_used (tables c.args.store.now) c.requires.well c.args.function.0 c.args.k c.requires.has in
     omega (arith, u, c.requires.well.counted.blocks.in_table)
 
-pub gather-kept-count-requires : goal.gather-kept-count-requires
-gather-kept-count-requires g c =
+pub gather_kept-count-requires : goal.gather_kept-count-requires
+gather_kept-count-requires g c =
     let t : Tables = tables c.args.store.now in
     let w = c.requires.well in
     let o = block_fits_at t w c.args.function.0 c.args.k c.requires.has in
@@ -38,7 +38,7 @@ gather-kept-count-requires g c =
 pub bounds-store-at-2 : goal.bounds-store-at-2
 bounds-store-at-2 g c =
     let u = block_used (tables c.args.store.now) c.requires.well c.args.function.0 c.args.k c.requires.has in
-    omega (arith, u, c.requires.well.counted.blocks.in_table, c.gather-kept-count.ensures.held.blocks_length)
+    omega (arith, u, c.requires.well.counted.blocks.in_table, c.gather_kept-count.ensures.held.blocks_length)
 
 pub returns : goal.returns
 returns g c =
@@ -46,10 +46,10 @@ returns g c =
     let p : InstructionV → Bool = g.K.Keeps.test c.args.keep.now in
     let n : ℕ = block_number t c.args.function.0 c.args.k in
     let run : Run = (block_of t c.args.function.0 c.args.k).instructions in
-    let e = c.gather-kept-count.ensures in
+    let e = c.gather_kept-count.ensures in
     let over : Tables → ℕ → Tables = λ u m. over_block u n (listing_run (get_or u.blocks n null_block) (record { first = (get_or u.blocks n null_block).instructions.first; count = m })) in
     record {
-      writes = ap (λ (u : Tables). over u c.gather-kept-count.result) e.writes
+      writes = ap (λ (u : Tables). over u c.gather_kept-count.result) e.writes
           ∙ ap (over (rewritten t run.first (kept_of p t (in_run t.numbers run)))) e.count
           ∙ ap (λ (l : List ℕ). with_thinned_list t c.args.function.0 c.args.k (kept_of p t l)) (sym (list_whole p t c.requires.well c.args.function.0 c.args.k c.requires.has));
       held = search rules;

@@ -12,11 +12,11 @@ returns c =
     let a = c.args in
     let t : Tables = tables a.store.now in
     let f : HirFunction = with_tag_name a.function a.tag.name in
-    let e = c.write-function.ensures in
+    let e = c.write_function.ensures in
     record {
       at = e.at;
-      counted = c.put-on-borne.ensures.counted;
-      does = becomes a.store.now c.write-function.new.store _ _ (e.writes ∙ ap (with_function t) c.put-on-borne.ensures.borne) e.held
+      counted = c.put_on-borne.ensures.counted;
+      does = becomes a.store.now c.write_function.new.store _ _ (e.writes ∙ ap (with_function t) c.put_on-borne.ensures.borne) e.held
           (view_function t c.requires.well f c.requires.room)
           (well_function t c.requires.well f c.requires.room c.requires.fits)
           (kept_function t f);

@@ -8,10 +8,10 @@ pub returns : goal.returns
 returns c =
     let a = c.args in
     let t : Tables = tables a.store.now in
-    let e = c.write-instruction.ensures in
+    let e = c.write_instruction.ensures in
     record {
       at = e.at;
-      does = becomes a.store.now c.write-instruction.new.store _ _ e.writes e.held
+      does = becomes a.store.now c.write_instruction.new.store _ _ e.writes e.held
           (view_instruction t c.requires.well a.instruction c.requires.room)
           (well_instruction t c.requires.well a.instruction c.requires.room c.requires.fits)
           (kept_instruction t a.instruction);

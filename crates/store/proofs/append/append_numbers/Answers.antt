@@ -8,10 +8,10 @@ pub returns : goal.returns
 returns c =
     let a = c.args in
     let t : Tables = tables a.store.now in
-    let e = c.write-numbers.ensures in
+    let e = c.write_numbers.ensures in
     record {
       at = e.at;
-      does = becomes a.store.now c.write-numbers.new.store _ _ e.writes e.held
+      does = becomes a.store.now c.write_numbers.new.store _ _ e.writes e.held
           (view_numbers t c.requires.well a.numbers.now c.requires.room)
           (well_numbers t c.requires.well a.numbers.now c.requires.room)
           (kept_numbers t a.numbers.now c.requires.room.in_table);

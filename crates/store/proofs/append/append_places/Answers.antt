@@ -8,10 +8,10 @@ pub returns : goal.returns
 returns c =
     let a = c.args in
     let t : Tables = tables a.store.now in
-    let e = c.write-places.ensures in
+    let e = c.write_places.ensures in
     record {
       at = e.at;
-      does = becomes a.store.now c.write-places.new.store _ _ e.writes e.held
+      does = becomes a.store.now c.write_places.new.store _ _ e.writes e.held
           (view_places t c.requires.well a.places.now c.requires.room)
           (well_places t c.requires.well a.places.now c.requires.room c.requires.fits)
           (kept_places t a.places.now c.requires.room.in_table);

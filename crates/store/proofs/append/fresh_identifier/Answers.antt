@@ -9,11 +9,11 @@ pub returns : goal.returns
 returns c =
     let a = c.args in
     let t : Tables = tables a.store.now in
-    let e = c.write-identifier.ensures in
+    let e = c.write_identifier.ensures in
     record {
       at = e.at;
       numbered = e.at ∙ identifiers_seen t c.requires.well a.name c.requires.room;
-      does = becomes a.store.now c.write-identifier.new.store _ _ e.writes e.held
+      does = becomes a.store.now c.write_identifier.new.store _ _ e.writes e.held
           (view_fresh t c.requires.well a.name c.requires.room)
           (well_identifier t c.requires.well (fresh_row t c.requires.well a.name c.requires.room) c.requires.room c.requires.fits)
           (kept_identifier t (fresh_row t c.requires.well a.name c.requires.room));

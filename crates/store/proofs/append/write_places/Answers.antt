@@ -9,12 +9,12 @@ pub returns : goal.returns
 returns c =
     let s = c.args.store.now in
     let xs = c.args.places.now in
-    let f : ℕ = c.take-places-run.result.first in
+    let f : ℕ = c.take_places-run.result.first in
     let e : length xs ≡ f + length xs - f = omega arith in
-    let a = ap (λ (r : Run). r.first) c.take-places-run.ensures.at in
-    let p = put_mid-paste f (f + length xs - f) s.places.now c.copy-from-slice.new.self xs (length xs) c.copy-from-slice.ensures.after e refl in
+    let a = ap (λ (r : Run). r.first) c.take_places-run.ensures.at in
+    let p = put_mid-paste f (f + length xs - f) s.places.now c.copy_from_slice.new.self xs (length xs) c.copy_from_slice.ensures.after e refl in
     record {
       at = search rules;
-      writes = λ i. hold_places (tables s) (c.take-places-run.ensures.counts i) ((p ∙ ap (λ v. paste s.places.now v xs (length xs)) a) i);
+      writes = λ i. hold_places (tables s) (c.take_places-run.ensures.counts i) ((p ∙ ap (λ v. paste s.places.now v xs (length xs)) a) i);
       held = search rules;
     }

@@ -7,10 +7,10 @@ pub returns : goal.returns
 returns c =
     let a = c.args in
     let t : Tables = tables a.store.now in
-    let e = c.write-block.ensures in
+    let e = c.write_block.ensures in
     record {
       at = e.at;
-      does = becomes a.store.now c.write-block.new.store _ _ e.writes e.held
+      does = becomes a.store.now c.write_block.new.store _ _ e.writes e.held
           (view_listed_block t c.requires.well a.block a.list.now c.requires.numbers c.requires.blocks c.requires.fits)
           (well_listed_block t c.requires.well a.block a.list.now c.requires.numbers c.requires.blocks c.requires.fits)
           (kept_listed_block t c.requires.well a.block a.list.now c.requires.numbers c.requires.blocks c.requires.fits);

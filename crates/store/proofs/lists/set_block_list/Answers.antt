@@ -4,8 +4,8 @@ use Rattle.std.proofs.Common.{arith}
 use Rattle.hir.proofs.Listed.{block_used, view_new_list, well_new_list, kept_new_list}
 use Rattle.store.proofs.lists.set_block_list.Goals as goal
 
-pub write-list-requires : goal.write-list-requires
-write-list-requires c =
+pub write_list-requires : goal.write_list-requires
+write_list-requires c =
     let a = c.args in
     let u = block_used (tables a.store.now) c.requires.well a.function.0 a.k c.requires.has in
     let w = c.requires.well.counted in
@@ -15,9 +15,9 @@ pub returns : goal.returns
 returns c =
     let a = c.args in
     let t : Tables = tables a.store.now in
-    let e = c.write-list.ensures in
+    let e = c.write_list.ensures in
     record {
-      does = becomes a.store.now c.write-list.new.store _ _ e.writes e.held
+      does = becomes a.store.now c.write_list.new.store _ _ e.writes e.held
           (view_new_list t c.requires.well a.function.0 a.k c.requires.has a.list.now c.requires.room)
           (well_new_list t c.requires.well a.function.0 a.k c.requires.has a.list.now c.requires.room c.requires.fits c.requires.unlisted)
           (kept_new_list t c.requires.well a.function.0 a.k c.requires.has a.list.now c.requires.room);
