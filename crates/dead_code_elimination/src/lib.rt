@@ -2,7 +2,6 @@
 //! rewritten; here that pass is a parameter, and anything that keeps the laws may stand for it.
 #![tactic(auto)]
 
-
 ghost use Rattle.std.specs.Prelude.{◌≡◌, length};
 ghost use Rattle.rules.specs.Views.{with_list};
 ghost use Rattle.rules.specs.Eliminations.{Meaning, Lawful, eliminated, keep};

@@ -1,7 +1,6 @@
 //! Names: their bytes, compared and made. A made name goes to the end of the used text.
 #![tactic(auto)]
 
-
 mod compare;
 mod digits;
 mod made;

@@ -1,7 +1,6 @@
 //! Tags: the names of appended functions, which nothing else bears.
 #![tactic(auto)]
 
-
 mod known;
 mod take;
 

@@ -6,7 +6,7 @@ use Rattle.dead_code_elimination.proofs.rewrite_block.Goals as goal
 
 pub returns : goal.returns
 returns g c =
-    let b = c.set-block-list.ensures.does in
+    let b = c.set_block_list.ensures.does in
     let e = c.eliminate.ensures.does in
     record {
       seen = e.seen ∙ ap (λ (h : Hir). eliminated g.E.Elimination.meaning h c.args.function.0) b.seen;

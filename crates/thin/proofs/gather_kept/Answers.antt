@@ -10,15 +10,15 @@ use Rattle.hir.proofs.Runs.{run_of, length_run}
 use Rattle.thin.specs.Kept.{kept_of, rewritten}
 use Rattle.thin.proofs.Front.{so_far, so_far_le, row_read, row_used, stays_more, goes_more, written_more, readable_still}
 use Rattle.thin.proofs.gather_kept.Goals as goal
-use Rattle.thin.proofs.gather_kept.Goals.{then_Keeps, else-keeps}
+use Rattle.thin.proofs.gather_kept.Goals.{then-keeps, else-keeps}
 
 pub loop-i-init : goal.loop-i-init
 loop-i-init g c =
     let t : Tables = tables c.args.store.now in
     (ap (hold_numbers t t.counts) (paste-zero t.numbers c.args.run.first []), refl, search rules)
 
-pub keeps-requires-in-loop-i : goal.keeps-requires-in-loop-i
-keeps-requires-in-loop-i g c =
+pub keeps-requires : goal.keeps-requires
+keeps-requires g c =
     let t : Tables = tables c.args.store.now in
     let p : InstructionV → Bool = g.K.Keeps.test c.args.keep.now in
     let f : ℕ = c.args.run.first in
@@ -70,7 +70,7 @@ loop-i-preserved g c =
     let tested : c.keeps.result ≡ p (instruction_at (rows t) row) =
     c.keeps.ensures ∙ ap (λ (v : Tables). p (instruction_at (rows v) (get_or v.numbers (f + i) 0))) e ∙ ap (λ m. p (instruction_at (rows t) m)) (row_read p t f n i fits h) in
     elim c.if-keeps.branch [
-      | then_Keeps w ↦
+      | then-keeps w ↦
           let stays = stays_more p t f n i fits h (sym tested ∙ w.if-keeps.true) in (
             ap tables w.store-is
                 ∙ ap (λ (v : Tables). hold_numbers v v.counts (set v.numbers (f + c.loop-i.front) (get_or v.numbers (f + i) 0))) e

@@ -17,12 +17,12 @@ returns c =
     let a = c.args in
     let t : Tables = tables a.store.now in
     let made : Bytes = a.prefix.now ++ numeral a.number in
-    let e = c.write-numbered.ensures in
+    let e = c.write_numbered.ensures in
     let room : Room t.counts.text (length made) (length t.text) text_limit = let l = length-append a.prefix.now (numeral a.number) in record { in_table = omega (arith, c.requires.room.in_table); in_limit = omega (arith, c.requires.room.in_limit) } in
     record {
       at = e.at;
-      fits = subst (λ (k : Counts). NameFits k c.write-numbered.result) (sym (ap (λ (u : Tables). u.counts) e.writes)) (subst (NameFits _) (sym e.at) (made_fits t c.requires.well made room (let l = length-append a.prefix.now (numeral a.number) in omega (arith, c.requires.some))));
+      fits = subst (λ (k : Counts). NameFits k c.write_numbered.result) (sym (ap (λ (u : Tables). u.counts) e.writes)) (subst (NameFits _) (sym e.at) (made_fits t c.requires.well made room (let l = length-append a.prefix.now (numeral a.number) in omega (arith, c.requires.some))));
       spells = (λ i. spelt (view (e.writes i)).text (e.at i)) ∙ spelt_made t c.requires.well made room;
-      does = becomes a.store.now c.write-numbered.new.store _ _ e.writes e.held
+      does = becomes a.store.now c.write_numbered.new.store _ _ e.writes e.held
           (view_text t c.requires.well made room) (well_text t c.requires.well made room) (kept_text t made room.in_table);
     }

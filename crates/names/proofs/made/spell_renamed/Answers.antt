@@ -21,9 +21,9 @@ returns c =
     let k : List ℕ = numeral c.args.number in
     let a = length-append own k in
     let l = length_spelt t c.requires.well b c.requires.fits in
-    let size : c.write-decimal-end.result - n ≡ length (own ++ k) = omega (arith, c.write-decimal-end.ensures.end) in
-    let written = c.write-decimal-end.ensures.text
-    ∙ ap (λ (l : List ℕ). paste l (n + b.len) k (length k)) (c.copy-onward.ensures ∙ ap (λ (l : List ℕ). paste s.text.now n l b.len) (sym (spelt_in t c.requires.well b c.requires.fits)))
+    let size : c.write_decimal-end.result - n ≡ length (own ++ k) = omega (arith, c.write_decimal-end.ensures.end) in
+    let written = c.write_decimal-end.ensures.text
+    ∙ ap (λ (l : List ℕ). paste l (n + b.len) k (length k)) (c.copy_onward.ensures ∙ ap (λ (l : List ℕ). paste s.text.now n l b.len) (sym (spelt_in t c.requires.well b c.requires.fits)))
     ∙ pasted_both s.text.now n b.len own k (sym l) (omega (arith, c.requires.room.in_table)) in
     let writes = ap (hold_text t s.counts) written in
     let room : Room n (length (own ++ k)) (length t.text) text_limit = record { in_table = omega (arith, c.requires.room.in_table); in_limit = omega (arith, c.requires.room.in_limit) } in

@@ -15,12 +15,12 @@ returns c =
     let n : ℕ = s.counts.text in
     let k : List ℕ = numeral c.args.number in
     let a = length-append p k in
-    let size : c.write-decimal-end.result - n ≡ length (p ++ k) = omega (arith, c.write-decimal-end.ensures.end) in
+    let size : c.write_decimal-end.result - n ≡ length (p ++ k) = omega (arith, c.write_decimal-end.ensures.end) in
     let e : length p ≡ n + length p - n = omega arith in
-    let first = put_mid-paste n (n + length p - n) s.text.now c.copy-from-slice.new.self p (length p) c.copy-from-slice.ensures.after e refl in
-    let written = c.write-decimal-end.ensures.text ∙ ap (λ (l : List ℕ). paste l (n + length p) k (length k)) first ∙ pasted_both s.text.now n (length p) p k refl (omega (arith, c.requires.in_table)) in
+    let first = put_mid-paste n (n + length p - n) s.text.now c.copy_from_slice.new.self p (length p) c.copy_from_slice.ensures.after e refl in
+    let written = c.write_decimal-end.ensures.text ∙ ap (λ (l : List ℕ). paste l (n + length p) k (length k)) first ∙ pasted_both s.text.now n (length p) p k refl (omega (arith, c.requires.in_table)) in
     record {
-      at = c.take-text.ensures.at ∙ ap (λ (l : ℕ). let x : Name = record { start = n; len = l } in x) size;
-      writes = λ i. hold_text (tables s) ((c.take-text.ensures.counts ∙ ap (more_text s.counts) size) i) (written i);
+      at = c.take_text.ensures.at ∙ ap (λ (l : ℕ). let x : Name = record { start = n; len = l } in x) size;
+      writes = λ i. hold_text (tables s) ((c.take_text.ensures.counts ∙ ap (more_text s.counts) size) i) (written i);
       held = search rules;
     }

@@ -9,12 +9,12 @@ pub returns : goal.returns
 returns c =
     let s = c.args.store.now in
     let xs = c.args.text.now in
-    let f : ℕ = c.take-text-name.result.start in
+    let f : ℕ = c.take_text-name.result.start in
     let e : length xs ≡ f + length xs - f = omega arith in
-    let a = ap (λ (n : Name). n.start) c.take-text-name.ensures.at in
-    let p = put_mid-paste f (f + length xs - f) s.text.now c.copy-from-slice.new.self xs (length xs) c.copy-from-slice.ensures.after e refl in
+    let a = ap (λ (n : Name). n.start) c.take_text-name.ensures.at in
+    let p = put_mid-paste f (f + length xs - f) s.text.now c.copy_from_slice.new.self xs (length xs) c.copy_from_slice.ensures.after e refl in
     record {
       at = search rules;
-      writes = λ i. hold_text (tables s) (c.take-text-name.ensures.counts i) ((p ∙ ap (λ v. paste s.text.now v xs (length xs)) a) i);
+      writes = λ i. hold_text (tables s) (c.take_text-name.ensures.counts i) ((p ∙ ap (λ v. paste s.text.now v xs (length xs)) a) i);
       held = search rules;
     }
