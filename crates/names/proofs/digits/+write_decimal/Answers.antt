@@ -23,4 +23,4 @@ returns-then-n-lt10 t c =
 pub returns-else-n-lt10 : goal.returns-else-n-lt10
 returns-else-n-lt10 t c =
     let e = length_long c.args.n (omega arith) (omega arith) (omega arith) in
-    record { end = omega arith; text = simp (c.write-decimal-end.ensures.text, c.write-decimal-end.ensures.end) (put_long c.args.text.now c.args.at c.args.n (omega arith) (omega arith) (omega arith) c.requires) }
+    record { end = omega arith; text = simp (c.write_decimal-end.ensures.text, c.write_decimal-end.ensures.end) (put_long c.args.text.now c.args.at c.args.n (omega arith) (omega arith) (omega arith) c.requires) }

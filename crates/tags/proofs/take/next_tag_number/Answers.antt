@@ -12,13 +12,13 @@ loop-tries-init c = (tries_first (tables c.args.store.now) c.requires.well, omeg
 pub loop-tries-preserved : goal.loop-tries-preserved
 loop-tries-preserved c =
     let h = view (tables c.args.store.now) in
-    (tries_on c.loop-tries.tries (known h) c.loop-tries.number (omega arith) (sym c.tag_known.ensures ∙ c.if-tag-known.true) ∙ c.loop-tries.invariant.0, omega (arith, c.loop-tries.invariant.1))
+    (tries_on c.loop-tries.tries (known h) c.loop-tries.number (omega arith) (sym c.tag_known.ensures ∙ c.if-tag_known.true) ∙ c.loop-tries.invariant.0, omega (arith, c.loop-tries.invariant.1))
 
-pub returns-else-tag-known : goal.returns-else-tag-known
-returns-else-tag-known c =
+pub returns-else-tag_known : goal.returns-else-tag_known
+returns-else-tag_known c =
     let h = view (tables c.args.store.now) in
     let w = c.requires.well.counted in
     record {
-      number = sym (tries_stop c.loop-tries.tries (known h) c.loop-tries.number (omega arith) (sym c.tag_known.ensures ∙ c.if-tag-known.false)) ∙ c.loop-tries.invariant.0;
+      number = sym (tries_stop c.loop-tries.tries (known h) c.loop-tries.number (omega arith) (sym c.tag_known.ensures ∙ c.if-tag_known.false)) ∙ c.loop-tries.invariant.0;
       bound = omega (arith, c.loop-tries.invariant.1, w.identifiers.in_limit, w.instructions.in_limit);
     }
