@@ -1,7 +1,6 @@
 //! Screens from comma lines: one line for each row of a table, its fields parted by commas.
 #![tactic(auto)]
 
-
 mod fault;
 mod fields;
 mod lines;

@@ -2,7 +2,6 @@
 //! of good screens was written by a program that holds the original pass; of bad ones, by hand.
 #![tactic(auto)]
 
-
 use comma_lines::read;
 use screen_text::dump;
 use std::alloc::{AllocError, Global};

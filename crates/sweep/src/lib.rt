@@ -1,7 +1,6 @@
 //! Sweep: of the rows of a function, what acts stays, and what is needed for it or for a terminal; the rest goes.
 #![tactic(auto)]
 
-
 mod mark;
 mod sweep_rows;
 mod thin_lists;

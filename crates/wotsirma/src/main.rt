@@ -1,7 +1,6 @@
 //! The command line: reads a screen from standard input, and writes what was asked for to standard output.
 #![tactic(auto)]
 
-
 mod command;
 mod failure;
 mod run;

@@ -11,15 +11,15 @@ mark-new-requires c =
     let h = All-get_or (λ (p : Place). p.identifier.0 < length c.args.marks.now) c.args.places.now c.loop-place.place-index null_place c.loop-place-test.true c.requires in
     omega (arith, h, c.loop-place.auto.marks)
 
-pub overflow-add-new : goal.overflow-add-new
-overflow-add-new c = omega (arith, unmarked_most c.args.marks.now, c.loop-place.invariant.1, c.mark_new.ensures.new)
+pub overflow_add-new : goal.overflow_add-new
+overflow_add-new c = omega (arith, unmarked_most c.args.marks.now, c.loop-place.invariant.1, c.mark-new.ensures.new)
 
 pub loop-place-preserved : goal.loop-place-preserved
 loop-place-preserved c =
     let i : ℕ = c.loop-place.place-index in
     let ps = c.args.places.now in (
-      ap (λ marks. all_left marks (drop (i + 1) ps)) c.mark_new.ensures.after ∙ sym (all_more c.loop-place.marks ps i c.loop-place-test.true) ∙ c.loop-place.invariant.0,
-      omega (arith, c.loop-place.invariant.1, c.mark_new.ensures.new),
+      ap (λ marks. all_left marks (drop (i + 1) ps)) c.mark-new.ensures.after ∙ sym (all_more c.loop-place.marks ps i c.loop-place-test.true) ∙ c.loop-place.invariant.0,
+      omega (arith, c.loop-place.invariant.1, c.mark-new.ensures.new),
     )
 
 pub returns : goal.returns

@@ -10,30 +10,30 @@ use Rattle.sweep.proofs.Reading.{rows_start, rows_back}
 use Rattle.sweep.proofs.mark.mark_block.Goals as goal
 
 pub loop-j-init : goal.loop-j-init
-loop-j-init c = (omega arith, rows_start (instruction_at (rows (tables c.args.store.now))) c.args.marks.now c.block-list-list.result.now, omega arith)
+loop-j-init c = (omega arith, rows_start (instruction_at (rows (tables c.args.store.now))) c.args.marks.now c.block_list-list.result.now, omega arith)
 
-pub mark-row-new-requires : goal.mark-row-new-requires
-mark-row-new-requires c =
+pub mark_row-new-requires : goal.mark_row-new-requires
+mark_row-new-requires c =
     let t : Tables = tables c.args.store.now in
-    let h : c.loop-j.j - 1 < length c.block-list-list.result.now = omega (arith, c.loop-j.invariant.0, c.loop-j-test.true) in
+    let h : c.loop-j.j - 1 < length c.block_list-list.result.now = omega (arith, c.loop-j.invariant.0, c.loop-j-test.true) in
     record {
       readable = readable t c.requires.well;
       wide = omega (arith, c.requires.wide, c.loop-j.auto.marks);
-      used = All-get_or (λ n. n < t.counts.instructions) c.block-list-list.result.now (c.loop-j.j - 1) 0 h c.block-list-list.ensures.listed;
+      used = All-get_or (λ n. n < t.counts.instructions) c.block_list-list.result.now (c.loop-j.j - 1) 0 h c.block_list-list.ensures.listed;
     }
 
-pub overflow-add-new : goal.overflow-add-new
-overflow-add-new c = omega (arith, unmarked_most c.args.marks.now, c.loop-j.invariant.2, c.mark-row-new.ensures.new)
+pub overflow_add-new : goal.overflow_add-new
+overflow_add-new c = omega (arith, unmarked_most c.args.marks.now, c.loop-j.invariant.2, c.mark_row-new.ensures.new)
 
 pub loop-j-preserved : goal.loop-j-preserved
 loop-j-preserved c =
     let g : ℕ → InstructionV = instruction_at (rows (tables c.args.store.now)) in
-    let ns : List ℕ = c.block-list-list.result.now in (
+    let ns : List ℕ = c.block_list-list.result.now in (
       omega (arith, c.loop-j.invariant.0),
-      c.mark-row-new.ensures.after
+      c.mark_row-new.ensures.after
           ∙ ap (λ (marks : List ℕ). passed marks (g (get_or ns (c.loop-j.j - 1) 0))) c.loop-j.invariant.1
           ∙ rows_back g c.args.marks.now ns c.loop-j.j (omega (arith, c.loop-j-test.true)) c.loop-j.invariant.0,
-      omega (arith, c.loop-j.invariant.2, c.mark-row-new.ensures.new),
+      omega (arith, c.loop-j.invariant.2, c.mark_row-new.ensures.new),
     )
 
 pub returns : goal.returns
@@ -41,6 +41,6 @@ returns c =
     let g : ℕ → InstructionV = instruction_at (rows (tables c.args.store.now)) in
     let end : c.loop-j.j ≡ 0 = omega (arith, c.loop-j-test.false) in
     record {
-      after = c.loop-j.invariant.1 ∙ ap (λ j. all_passed c.args.marks.now (map g (drop j c.block-list-list.result.now))) end ∙ ap (all_passed c.args.marks.now) c.block-list-list.ensures.seen;
+      after = c.loop-j.invariant.1 ∙ ap (λ j. all_passed c.args.marks.now (map g (drop j c.block_list-list.result.now))) end ∙ ap (all_passed c.args.marks.now) c.block_list-list.ensures.seen;
       new = c.loop-j.invariant.2;
     }

@@ -12,8 +12,8 @@ mark-new-requires c =
     let h = All-get_or (λ (p : Place). p.identifier.0 < length c.args.marks.now) c.args.places.now c.loop-place.place-index null_place c.loop-place-test.true c.requires in
     omega (arith, h, c.loop-place.auto.marks)
 
-pub overflow-add-new : goal.overflow-add-new
-overflow-add-new c = omega (arith, unmarked_most c.args.marks.now, c.loop-place.invariant.1, c.mark_new.ensures.new)
+pub overflow_add-new : goal.overflow_add-new
+overflow_add-new c = omega (arith, unmarked_most c.args.marks.now, c.loop-place.invariant.1, c.mark-new.ensures.new)
 
 pub loop-place-preserved : goal.loop-place-preserved
 loop-place-preserved c =
@@ -21,8 +21,8 @@ loop-place-preserved c =
     let ps = c.args.places.now in
     elim c.if-place-le-LAST-READ.branch [
       | then-place-le-LAST-READ w ↦ (
-        ap (λ marks. reads_left marks (drop (i + 1) ps)) (w.marks-is ∙ w.mark_new.ensures.after) ∙ sym (reads_more c.loop-place.marks ps i c.loop-place-test.true (omega (arith, w.if-place-le-LAST-READ.true))) ∙ c.loop-place.invariant.0,
-        simp (w.marks-is, w.new-is) (omega (arith, c.loop-place.invariant.1, w.mark_new.ensures.new)),
+        ap (λ marks. reads_left marks (drop (i + 1) ps)) (w.marks-is ∙ w.mark-new.ensures.after) ∙ sym (reads_more c.loop-place.marks ps i c.loop-place-test.true (omega (arith, w.if-place-le-LAST-READ.true))) ∙ c.loop-place.invariant.0,
+        simp (w.marks-is, w.new-is) (omega (arith, c.loop-place.invariant.1, w.mark-new.ensures.new)),
       )
       | else-place-le-LAST-READ w ↦ (
         ap (λ marks. reads_left marks (drop (i + 1) ps)) w.marks-is ∙ sym (reads_less c.loop-place.marks ps i c.loop-place-test.true (omega (arith, w.if-place-le-LAST-READ.false))) ∙ c.loop-place.invariant.0,

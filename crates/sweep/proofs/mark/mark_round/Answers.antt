@@ -12,8 +12,8 @@ loop-k-init c =
     let t : Tables = tables c.args.store.now in
     (omega (arith, blocks_count t c.requires.well c.args.function.0 c.requires.used), round_start t c.requires.well c.args.function.0 c.requires.used c.args.marks.now, omega arith)
 
-pub mark-block-new-requires : goal.mark-block-new-requires
-mark-block-new-requires c =
+pub mark_block-new-requires : goal.mark_block-new-requires
+mark_block-new-requires c =
     let n = blocks_count (tables c.args.store.now) c.requires.well c.args.function.0 c.requires.used in
     record {
       well = c.requires.well;
@@ -21,17 +21,17 @@ mark-block-new-requires c =
       has = record { function = c.requires.used; block = omega (arith, n, c.loop-k.invariant.0, c.loop-k-test.true) };
     }
 
-pub overflow-add-new : goal.overflow-add-new
-overflow-add-new c = omega (arith, unmarked_most c.args.marks.now, c.loop-k.invariant.2, c.mark-block-new.ensures.new)
+pub overflow_add-new : goal.overflow_add-new
+overflow_add-new c = omega (arith, unmarked_most c.args.marks.now, c.loop-k.invariant.2, c.mark_block-new.ensures.new)
 
 pub loop-k-preserved : goal.loop-k-preserved
 loop-k-preserved c =
     let bs : List BlockV = (function_at (view (tables c.args.store.now)) c.args.function.0).blocks in (
       omega (arith, c.loop-k.invariant.0),
-      c.mark-block-new.ensures.after
+      c.mark_block-new.ensures.after
           ∙ ap (λ (marks : List ℕ). all_passed marks (block_rows bs (c.loop-k.k - 1))) c.loop-k.invariant.1
           ∙ round_back c.args.marks.now bs c.loop-k.k (omega (arith, c.loop-k-test.true)) c.loop-k.invariant.0,
-      omega (arith, c.loop-k.invariant.2, c.mark-block-new.ensures.new),
+      omega (arith, c.loop-k.invariant.2, c.mark_block-new.ensures.new),
     )
 
 pub returns : goal.returns

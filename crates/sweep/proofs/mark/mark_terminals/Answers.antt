@@ -8,13 +8,13 @@ use Rattle.sweep.proofs.mark.mark_terminals.Goals as goal
 pub loop-k-init : goal.loop-k-init
 loop-k-init c = (omega arith, terminals_start (tables c.args.store.now) c.requires.well c.args.function.0 c.requires.used c.args.marks.now)
 
-pub overflow-add-run : goal.overflow-add-run
-overflow-add-run c =
+pub overflow_add-run : goal.overflow_add-run
+overflow_add-run c =
     let b = blocks_fit (tables c.args.store.now) c.requires.well c.args.function.0 c.requires.used in
     omega (arith, b, c.requires.well.counted.blocks.in_limit, c.loop-k.invariant.0)
 
-pub mark-terminal-requires : goal.mark-terminal-requires
-mark-terminal-requires c =
+pub mark_terminal-requires : goal.mark_terminal-requires
+mark_terminal-requires c =
     let b = blocks_fit (tables c.args.store.now) c.requires.well c.args.function.0 c.requires.used in
     record { well = c.requires.well; wide = omega (arith, c.requires.wide, c.loop-k.auto.marks); used = omega (arith, b, c.loop-k.invariant.0, c.loop-k-test.true) }
 
@@ -22,7 +22,7 @@ pub loop-k-preserved : goal.loop-k-preserved
 loop-k-preserved c =
     let t : Tables = tables c.args.store.now in (
       omega (arith, c.loop-k.invariant.0),
-      c.mark-terminal.ensures.after
+      c.mark_terminal.ensures.after
           ∙ ap (λ (marks : List ℕ). with_marks marks (identifiers_of (seen_at t c.requires.well c.args.function.0 c.requires.used (c.loop-k.k - 1)).places)) c.loop-k.invariant.1
           ∙ terminals_back t c.requires.well c.args.function.0 c.requires.used c.args.marks.now c.loop-k.k (omega (arith, c.loop-k-test.true)) c.loop-k.invariant.0,
     )

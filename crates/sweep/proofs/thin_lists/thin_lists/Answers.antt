@@ -9,8 +9,8 @@ use Rattle.sweep.proofs.thin_lists.thin_lists.Goals as goal
 pub loop-k-init : goal.loop-k-init
 loop-k-init c = (start (tables c.args.store.now) c.requires.well c.args.function.0 c.requires.used c.args.marks.now c.requires.wide, held_same c.args.store.now)
 
-pub thin-block-list-requires : goal.thin-block-list-requires
-thin-block-list-requires c =
+pub thin_block_list-requires : goal.thin_block_list-requires
+thin_block_list-requires c =
     let t : Tables = tables c.args.store.now in
     let u : Tables = tables c.loop-k.store in
     record {
@@ -22,8 +22,8 @@ thin-block-list-requires c =
 pub loop-k-preserved : goal.loop-k-preserved
 loop-k-preserved c =
     let t : Tables = tables c.args.store.now in
-    let d = c.thin-block-list.ensures.does in (
-      step t c.requires.well c.args.function.0 c.requires.used c.args.marks.now c.requires.wide c.loop-k.k c.loop-k-test.true (tables c.loop-k.store) c.loop-k.invariant.0 c.loop-k.store c.thin-block-list.new.store refl d,
+    let d = c.thin_block_list.ensures.does in (
+      step t c.requires.well c.args.function.0 c.requires.used c.args.marks.now c.requires.wide c.loop-k.k c.loop-k-test.true (tables c.loop-k.store) c.loop-k.invariant.0 c.loop-k.store c.thin_block_list.new.store refl d,
       held_then d.held c.loop-k.invariant.1,
     )
 

@@ -12,12 +12,12 @@ identifier_bears-requires c = record {
 pub returns-then-identifier_bears : goal.returns-then-identifier_bears
 returns-then-identifier_bears c =
     let t : Tables = tables c.args.store.now in
-    or_found _ _ _ _ (sym c.identifier-bears.ensures ∙ c.if-identifier-bears.true) (identifier_step t c.requires c.args.name.now c.loop-i.i (omega arith)) c.loop-i.invariant
+    or_found _ _ _ _ (sym c.identifier_bears.ensures ∙ c.if-identifier_bears.true) (identifier_step t c.requires c.args.name.now c.loop-i.i (omega arith)) c.loop-i.invariant
 
 pub loop-i-preserved : goal.loop-i-preserved
 loop-i-preserved c =
     let t : Tables = tables c.args.store.now in
-    or_passed _ _ _ _ (sym c.identifier-bears.ensures ∙ c.if-identifier-bears.false) (identifier_step t c.requires c.args.name.now c.loop-i.i (omega arith)) c.loop-i.invariant
+    or_passed _ _ _ _ (sym c.identifier_bears.ensures ∙ c.if-identifier_bears.false) (identifier_step t c.requires c.args.name.now c.loop-i.i (omega arith)) c.loop-i.invariant
 
 pub returns : goal.returns
 returns c = sym (identifiers_end (tables c.args.store.now) c.requires c.args.name.now c.loop-i.i (omega arith)) ∙ c.loop-i.invariant

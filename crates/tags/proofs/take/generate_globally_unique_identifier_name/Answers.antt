@@ -21,19 +21,19 @@ returns c =
     let t : Tables = tables s in
     let w = c.requires.well in
     let n : ℕ = next_tag (view t) in
-    let is_n = c.next-tag-number-number.ensures.number in
+    let is_n = c.next_tag_number-number.ensures.number in
     let made : Bytes = tag_name n in
-    let e = c.append-tag-name-name.ensures in
-    let u : Tables = tables c.append-tag-name-name.new.store in
+    let e = c.append_tag_name-name.ensures in
+    let u : Tables = tables c.append_tag_name-name.new.store in
     let writes = ap (λ (k : Counts). hold_text u k u.text) c.take_tag.ensures.counts ∙ (λ i. with_tag ((e.does.writes ∙ ap (λ m. with_text t (tag_name m)) is_n) i) (is_n i)) in
     let tag = c.take_tag.ensures.tag ∙ (λ i. let x : Tag = record { number = is_n i; name = (e.at ∙ ap (λ m. next_name t (tag_name m)) is_n) i } in x) in
-    let short : length made ≤ 15 = subst (λ m. length (tag_name m) ≤ 15) is_n (length_tag c.next-tag-number-number.result (omega arith)) in
+    let short : length made ≤ 15 = subst (λ m. length (tag_name m) ≤ 15) is_n (length_tag c.next_tag_number-number.result (omega arith)) in
     let room : Room t.counts.text (length made) (length t.text) text_limit = record { in_table = omega (arith, c.requires.room.in_table); in_limit = omega (arith, c.requires.room.in_limit) } in
     let fit = made_fits t w made room (tag_some n) in
     record {
       tag = tag;
       fits = subst (λ (k : Counts). NameFits k c.take_tag.result.name) (sym (ap (λ (v : Tables). v.counts) writes)) (subst (λ (x : Tag). NameFits (tag_taken (with_text t made).counts n) x.name) (sym tag) (record { some = fit.some; inside = fit.inside }));
       spells = (λ i. spelt (view (writes i)).text (tag i).name) ∙ spelt_made t w made room;
-      bound = subst (λ (x : Tag). x.number ≤ s.counts.tag_mark + 131072) (sym c.take_tag.ensures.tag) c.next-tag-number-number.ensures.bound;
+      bound = subst (λ (x : Tag). x.number ≤ s.counts.tag_mark + 131072) (sym c.take_tag.ensures.tag) c.next_tag_number-number.ensures.bound;
       does = becomes s _ _ _ writes (search rules) (view_tag t w room) (well_tag (with_text t made) (well_text t w made room) n) (kept_then (kept_text t made room.in_table) (kept_tag (with_text t made) n));
     }

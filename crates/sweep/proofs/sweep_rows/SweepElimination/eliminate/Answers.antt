@@ -9,7 +9,7 @@ returns c =
     let e = c.thin_lists.ensures in
     record {
       does = record {
-        seen = e.seen ∙ marks_sweep c.mark-needed.new.marks (view (tables c.args.store.now)) c.args.function.0 c.mark-needed.ensures;
+        seen = e.seen ∙ marks_sweep c.mark_needed.new.marks (view (tables c.args.store.now)) c.args.function.0 c.mark_needed.ensures;
         well = e.well;
         kept = e.kept;
         only = e.only;
