@@ -5,16 +5,14 @@ mod command;
 mod failure;
 mod run;
 
-// What the process ends with after its message is written.
-#[derive(Drop)]
-struct Failed;
+use std::process::ExitCode;
 
-fn main(rt: HostRuntime) -> Result<(), Failed> {
+fn main(rt: HostRuntime) -> ExitCode {
     match run::run(&rt) {
-        Ok(()) => Ok(()),
+        Ok(()) => ExitCode::SUCCESS,
         Err(failure) => {
             let _ = eprintln!(rt; "wotsirma: {failure}");
-            Err(Failed)
+            ExitCode::FAILURE
         }
     }
 }
