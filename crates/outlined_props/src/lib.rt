@@ -2,7 +2,6 @@
 //! alone; specs/ says what they show.
 #![tactic(auto)]
 
-
 use hir::{IdentifierId, InstructionId, Name, Place};
 
 // A prop of the group: an attribute of a member, or a child that is no member. Only an attribute has an original name.

@@ -1,7 +1,6 @@
 //! Why a call is refused, and what each refusal says of a store (specs/Conditions.antt).
 #![tactic(auto)]
 
-
 ghost use Rattle.std.specs.Prelude.{◌≡◌};
 ghost use Rattle.refusals.specs.Numbers.{number_of};
 ghost use Rattle.refusals.specs.declared.Refusal.TheVariants.{Memory};

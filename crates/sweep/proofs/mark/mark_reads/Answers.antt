@@ -5,7 +5,7 @@ use Rattle.hir.specs.declared.rows.Place.{Place}
 use Rattle.hir.specs.View.{null_place}
 use Rattle.sweep.proofs.Marking.{reads_left, reads_more, reads_less, unmarked_most}
 use Rattle.sweep.proofs.mark.mark_reads.Goals as goal
-use Rattle.sweep.proofs.mark.mark_reads.Goals.{then-place-le-LAST-READ, else-place-le-LAST-READ}
+use Rattle.sweep.proofs.mark.mark_reads.Goals.{then-place-le-LAST_READ, else-place-le-LAST_READ}
 
 pub mark-new-requires : goal.mark-new-requires
 mark-new-requires c =
@@ -19,13 +19,13 @@ pub loop-place-preserved : goal.loop-place-preserved
 loop-place-preserved c =
     let i : ℕ = c.loop-place.place-index in
     let ps = c.args.places.now in
-    elim c.if-place-le-LAST-READ.branch [
-      | then-place-le-LAST-READ w ↦ (
-        ap (λ marks. reads_left marks (drop (i + 1) ps)) (w.marks-is ∙ w.mark-new.ensures.after) ∙ sym (reads_more c.loop-place.marks ps i c.loop-place-test.true (omega (arith, w.if-place-le-LAST-READ.true))) ∙ c.loop-place.invariant.0,
+    elim c.if-place-le-LAST_READ.branch [
+      | then-place-le-LAST_READ w ↦ (
+        ap (λ marks. reads_left marks (drop (i + 1) ps)) (w.marks-is ∙ w.mark-new.ensures.after) ∙ sym (reads_more c.loop-place.marks ps i c.loop-place-test.true (omega (arith, w.if-place-le-LAST_READ.true))) ∙ c.loop-place.invariant.0,
         simp (w.marks-is, w.new-is) (omega (arith, c.loop-place.invariant.1, w.mark-new.ensures.new)),
       )
-      | else-place-le-LAST-READ w ↦ (
-        ap (λ marks. reads_left marks (drop (i + 1) ps)) w.marks-is ∙ sym (reads_less c.loop-place.marks ps i c.loop-place-test.true (omega (arith, w.if-place-le-LAST-READ.false))) ∙ c.loop-place.invariant.0,
+      | else-place-le-LAST_READ w ↦ (
+        ap (λ marks. reads_left marks (drop (i + 1) ps)) w.marks-is ∙ sym (reads_less c.loop-place.marks ps i c.loop-place-test.true (omega (arith, w.if-place-le-LAST_READ.false))) ∙ c.loop-place.invariant.0,
         simp (w.marks-is, w.new-is) c.loop-place.invariant.1,
       )
     ]
