@@ -1,9 +1,8 @@
 //! Refusal 5: in each block phis come first, orders rise, and elements are at most 256.
 #![tactic(auto)]
 
-
 ghost use Rattle.std.specs.Prelude.{◌≡◌, ℕ, ◌<◌, false, length, MatchBool, ◌==◌};
-ghost use Rattle.std.specs.List.{AllByRecursion as All};
+ghost use Rattle.std.specs.List.{AllByRecursion};
 ghost use Rattle.rules.specs.Kinds.{phi_kind};
 ghost use Rattle.rules.specs.Lists.{select};
 ghost use Rattle.rules.specs.Views.{function_at, is_element};
@@ -32,7 +31,7 @@ pub fn function_ordered(store: &Store<'_>, function: FunctionId) -> bool
 
 fn list_ordered(store: &Store<'_>, list: &[u32]) -> bool
     requires readable { Readable (tables store.now) }
-    requires listed { All (λ n. n < store.now.counts.instructions) list.now }
+    requires listed { AllByRecursion (λ n. n < store.now.counts.instructions) list.now }
     ensures { MatchBool result (RowsOrdered (instructions_at (rows (tables store.now)) list.now)) (RowsOrdered (instructions_at (rows (tables store.now)) list.now) → ⊥) }
 {
     if !orders_rise(store, list) {
@@ -43,7 +42,7 @@ fn list_ordered(store: &Store<'_>, list: &[u32]) -> bool
 
 fn orders_rise(store: &Store<'_>, list: &[u32]) -> bool
     requires readable { Readable (tables store.now) }
-    requires listed { All (λ n. n < store.now.counts.instructions) list.now }
+    requires listed { AllByRecursion (λ n. n < store.now.counts.instructions) list.now }
     ensures { MatchBool result (Rising (instructions_at (rows (tables store.now)) list.now)) (Rising (instructions_at (rows (tables store.now)) list.now) → ⊥) }
 {
     for k in 1..list.len() {
@@ -68,7 +67,7 @@ fn comes_after(before: Instruction, after: Instruction) -> bool
 // How many of the rows are elements.
 fn elements_in(store: &Store<'_>, list: &[u32]) -> usize
     requires readable { Readable (tables store.now) }
-    requires listed { All (λ n. n < store.now.counts.instructions) list.now }
+    requires listed { AllByRecursion (λ n. n < store.now.counts.instructions) list.now }
     ensures { result ≡ length (select is_element (instructions_at (rows (tables store.now)) list.now)) }
 {
     let mut elements = 0usize;

@@ -1,6 +1,6 @@
 -- What an elimination is given, and what it leaves.
 use Rattle.std.specs.Prelude.{◌≡◌, ℕ, ◌+◌, ◌<◌, ◌≤◌, ◌⊎◌, List, length, get_or, slice_index, slice_index_or}
-use Rattle.std.specs.List.{AllByRecursion as All}
+use Rattle.std.specs.List.{AllByRecursion}
 use Rattle.rules.specs.Eliminations.{Meaning, eliminated}
 use Rattle.hir.specs.declared.rows.Run.{Run}
 use Rattle.hir.specs.declared.rows.Store.{Store}
@@ -12,7 +12,7 @@ use Rattle.hir.specs.Frame.{Kept, without_list}
 
 -- every mark byte is zero
 abbrev pub Zero : List ℕ → Type 0
-Zero marks = All (λ m. m ≡ 0) marks
+Zero marks = AllByRecursion (λ m. m ≡ 0) marks
 
 -- A store whose form was checked, one of its functions, and a zero mark byte for each identifier.
 pub record Ready (t : Tables) (f : ℕ) (marks : List ℕ) : Type 0 where

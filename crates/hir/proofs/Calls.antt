@@ -1,6 +1,6 @@
 -- What a call shows of a store from the tables that it leaves; and what was seen before a call is seen after it.
 use Rattle.std.proofs.Common.{◌≡◌, ℕ, ◌<◌, List, map, length, sym, refl, ap, ◌∙◌, subst, arith}
-use Rattle.std.specs.List.{AllByRecursion as All}
+use Rattle.std.specs.List.{AllByRecursion}
 use Rattle.rules.specs.Views.{Hir}
 use Rattle.hir.specs.declared.rows.Store.{Store}
 use Rattle.hir.specs.declared.rows.Counts.{Counts}
@@ -29,5 +29,5 @@ module _ (t : Tables) (w : WellFormed t) (u : Tables) (k : Kept t u) where
   pub instruction_carried : (n : ℕ) → n < t.counts.instructions → instruction_at (rows u) n ≡ instruction_at (rows t) n
   instruction_carried n h = instruction_at_same (rows t) (rows u) (kept_stays t u k) (sound_rows t w) n (subst (λ (c : Counts). n < c.instructions) (sym (sizes_are t w.counted)) h)
 
-  pub instructions_carried : (ns : List ℕ) → All (λ n. n < t.counts.instructions) ns → instructions_at (rows u) ns ≡ instructions_at (rows t) ns
-  instructions_carried ns a = instructions_at_same (rows t) (rows u) (kept_stays t u k) (sound_rows t w) ns (subst (λ (c : Counts). All (λ n. n < c.instructions) ns) (sym (sizes_are t w.counted)) a)
+  pub instructions_carried : (ns : List ℕ) → AllByRecursion (λ n. n < t.counts.instructions) ns → instructions_at (rows u) ns ≡ instructions_at (rows t) ns
+  instructions_carried ns a = instructions_at_same (rows t) (rows u) (kept_stays t u k) (sound_rows t w) ns (subst (λ (c : Counts). AllByRecursion (λ n. n < c.instructions) ns) (sym (sizes_are t w.counted)) a)

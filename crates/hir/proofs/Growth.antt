@@ -1,6 +1,6 @@
 -- Appended rows: what fitted fits still, and a sound store stays sound.
 use Rattle.std.proofs.Common.{◌≡◌, ℕ, ◌+◌, ◌<◌, ◌≤◌, ◌≢◌, ◌⊎◌, List, [], ◌∷◌, ◌++◌, map, length, get_or, take, Some, None, Option, sym, refl, ap, ◌∙◌, subst, inl, inr, arith, length-take-le}
-use Rattle.std.specs.List.{AllByRecursion as All}
+use Rattle.std.specs.List.{AllByRecursion}
 use Rattle.std.proofs.ByRecursion.{All-weaker, All-append}
 use Rattle.hir.specs.declared.rows.Name.{Name}
 use Rattle.hir.specs.declared.rows.Run.{Run}
@@ -73,8 +73,8 @@ module _ (c d : Counts) (m : More c d) where
         places = omega (arith, h.places, m.places);
         instructions = omega (arith, h.instructions, m.numbers);
         preds = omega (arith, h.preds, m.numbers);
-        listed = subst (All (λ n. n < d.instructions)) i (All-weaker (λ n. n < c.instructions) (λ n. n < d.instructions) (λ n l. omega (arith, m.instructions)) (in_run ns b.instructions) h.listed);
-        named = subst (All (λ n. n < d.blocks)) q (All-weaker (λ n. n < c.blocks) (λ n. n < d.blocks) (λ n l. omega (arith, m.blocks)) (in_run ns b.preds) h.named);
+        listed = subst (AllByRecursion (λ n. n < d.instructions)) i (All-weaker (λ n. n < c.instructions) (λ n. n < d.instructions) (λ n l. omega (arith, m.instructions)) (in_run ns b.instructions) h.listed);
+        named = subst (AllByRecursion (λ n. n < d.blocks)) q (All-weaker (λ n. n < c.blocks) (λ n. n < d.blocks) (λ n l. omega (arith, m.blocks)) (in_run ns b.preds) h.named);
         once = subst (λ (l : List ℕ). Pairwise ◌≢◌ l) i h.once;
         own = h.own;
       }
@@ -113,8 +113,8 @@ apart_other_way ns x y a = record {
   rows = unlike_other_way (in_run ns x.instructions) (in_run ns y.instructions) a.rows;
 }
 
-joined_all : {A : Type 0} (P Q : A → Type 0) → ((x : A) → P x → Q x) → (xs ys : List A) → (p : Prefix xs ys) → All P xs → All Q p.0 → All Q ys
-joined_all P Q f xs ys p a b = subst (All Q) (sym p.1) (All-append Q xs p.0 (All-weaker P Q f xs a) b)
+joined_all : {A : Type 0} (P Q : A → Type 0) → ((x : A) → P x → Q x) → (xs ys : List A) → (p : Prefix xs ys) → AllByRecursion P xs → AllByRecursion Q p.0 → AllByRecursion Q ys
+joined_all P Q f xs ys p a b = subst (AllByRecursion Q) (sym p.1) (All-append Q xs p.0 (All-weaker P Q f xs a) b)
 
 module _ (r s : Rows) (e : Extends r s) (w : Sound (sizes r) r) where
   more : More (sizes r) (sizes s)
@@ -124,8 +124,8 @@ module _ (r s : Rows) (e : Extends r s) (w : Sound (sizes r) r) where
   pub blocks_apart_still : Pairwise (BlocksApart s.numbers) r.blocks
   blocks_apart_still = pairwise_under (BlocksApart r.numbers) (BlockFits (sizes r) r.numbers) (BlocksApart s.numbers) (apart_grows (sizes r) r.numbers s.numbers e.numbers refl) r.blocks w.blocks w.blocks_apart
 
-  pub sound_grown : All (IdentifierFits (sizes s)) e.identifiers.0 → All (PlaceFits (sizes s)) e.places.0 → All (InstructionFits (sizes s)) e.instructions.0
-      → All (BlockFits (sizes s) s.numbers) e.blocks.0 → All (FunctionFits (sizes s)) e.functions.0
+  pub sound_grown : AllByRecursion (IdentifierFits (sizes s)) e.identifiers.0 → AllByRecursion (PlaceFits (sizes s)) e.places.0 → AllByRecursion (InstructionFits (sizes s)) e.instructions.0
+      → AllByRecursion (BlockFits (sizes s) s.numbers) e.blocks.0 → AllByRecursion (FunctionFits (sizes s)) e.functions.0
       → Pairwise (BlocksApart s.numbers) s.blocks → Pairwise FunctionsApart s.functions → Sound (sizes s) s
   sound_grown is ps ls bs fs ba fa = record {
     identifiers = joined_all (IdentifierFits (sizes r)) (IdentifierFits (sizes s)) (λ x. identifier_grows (sizes r) (sizes s) more x x.name) r.identifiers s.identifiers e.identifiers w.identifiers is;

@@ -1,7 +1,7 @@
 -- The view after each append, and that the store stays well formed.
 use Rattle.std.proofs.Common.{◌≡◌, ℕ, ◌+◌, ◌<◌, ◌≤◌, Bool, true, false, ◌||◌, ◌≢◌, ◌⊎◌, List, [], ◌∷◌, ◌++◌, map, length, get_or, take, sym, refl, ap, ◌∙◌, subst, inl, inr, append-nil, add-zero, arith, length-append, length-set, length-take-le}
 use lib.Seq.{paste, length-paste}
-use Rattle.std.specs.List.{AllByRecursion as All}
+use Rattle.std.specs.List.{AllByRecursion}
 use Rattle.std.proofs.lemmas.List.{take_more_set, length-map}
 use Rattle.std.proofs.ByRecursion.{All-get_or, All-weaker}
 use Rattle.rules.specs.Lists.{any}
@@ -117,8 +117,8 @@ module _ (t : Tables) (w : WellFormed t) where
     pub view_places : view u_places ≡ view t
     view_places = ap seen rows_places ∙ view_grown r s_places ext_places sound ∙ more_none (view t)
 
-    pub well_places : All (PlaceFits t.counts) xs → WellFormed u_places
-    well_places fit = sound_tables u_places s_places counted_places rows_places (sound_grown r s_places ext_places sound tt (All-weaker (PlaceFits (sizes r)) (PlaceFits (sizes s_places)) (place_grows (sizes r) (sizes s_places) (extends_more r s_places ext_places)) xs (subst (λ c. All (PlaceFits c) xs) sized fit)) tt tt tt w.sound.blocks_apart w.sound.functions_apart)
+    pub well_places : AllByRecursion (PlaceFits t.counts) xs → WellFormed u_places
+    well_places fit = sound_tables u_places s_places counted_places rows_places (sound_grown r s_places ext_places sound tt (All-weaker (PlaceFits (sizes r)) (PlaceFits (sizes s_places)) (place_grows (sizes r) (sizes s_places) (extends_more r s_places ext_places)) xs (subst (λ c. AllByRecursion (PlaceFits c) xs) sized fit)) tt tt tt w.sound.blocks_apart w.sound.functions_apart)
 
   -- a row
   module _ (x : Instruction) (room : Room t.counts.instructions (1) (length t.instructions) instructions_limit) where
@@ -209,7 +209,7 @@ module _ (t : Tables) (w : WellFormed t) where
     pub view_block : view u_block ≡ view t
     view_block = ap seen rows_block ∙ view_grown r s_block ext_block sound ∙ more_none (view t)
 
-    pub well_block : BlockFits t.counts r.numbers x → All (λ b. BlocksApart r.numbers b x) r.blocks → WellFormed u_block
+    pub well_block : BlockFits t.counts r.numbers x → AllByRecursion (λ b. BlocksApart r.numbers b x) r.blocks → WellFormed u_block
     well_block fit apart = sound_tables u_block s_block counted_block rows_block (sound_grown r s_block ext_block sound tt tt tt (block_grows (sizes r) (sizes s_block) (extends_more r s_block ext_block) r.numbers r.numbers (prefix_same r.numbers) refl x (subst (λ c. BlockFits c r.numbers x) sized fit), tt) tt (pairwise_push (BlocksApart r.numbers) r.blocks x w.sound.blocks_apart (λ i d h. let a = All-get_or (λ b. BlocksApart r.numbers b x) r.blocks i d h apart in (a, apart_other_way r.numbers (get_or r.blocks i d) x a))) w.sound.functions_apart)
 
   -- a function

@@ -1,7 +1,7 @@
 -- The tables after a block is appended with its list, given a new list, or its list made shorter.
 use Rattle.std.proofs.Common.{◌≡◌, ℕ, ◌+◌, ◌<◌, ◌≤◌, ◌≢◌, ◌⊎◌, List, [], ◌∷◌, ◌++◌, map, length, get_or, take, set, sym, refl, ap, ◌∙◌, subst, inl, inr, arith, length-append, length-set, length-take-le, get_or-take}
 use lib.Seq.{paste, length-paste, take-set-lt}
-use Rattle.std.specs.List.{AllByRecursion as All}
+use Rattle.std.specs.List.{AllByRecursion}
 use Rattle.std.proofs.ByRecursion.{All-get_or, All-from_get_or}
 use Rattle.std.proofs.lemmas.Bool.{cases_eq}
 use Rattle.rules.specs.Views.{with_list}
@@ -53,13 +53,13 @@ module _ (t : Tables) (w : WellFormed t) (b : BasicBlock) (xs : List ℕ) (numbe
     places = fit.places;
     instructions = omega arith;
     preds = empty_fits t₁.counts.numbers b.preds fit.preds;
-    listed = subst (All (λ n. n < t.counts.instructions)) (sym list_is) fit.list.listed;
-    named = subst (λ (v : Run). All (λ n. n < t.counts.blocks) (in_run (rows t₁).numbers v)) (sym fit.preds) tt;
+    listed = subst (AllByRecursion (λ n. n < t.counts.instructions)) (sym list_is) fit.list.listed;
+    named = subst (λ (v : Run). AllByRecursion (λ n. n < t.counts.blocks) (in_run (rows t₁).numbers v)) (sym fit.preds) tt;
     once = subst (λ (l : List ℕ). Pairwise ◌≢◌ l) (sym list_is) fit.list.once;
     own = empty_clear (next_run t xs) b.preds fit.preds;
   }
 
-  block_apart : All (λ c. BlocksApart (rows t₁).numbers c x) (rows t₁).blocks
+  block_apart : AllByRecursion (λ c. BlocksApart (rows t₁).numbers c x) (rows t₁).blocks
   block_apart = All-from_get_or (λ c. BlocksApart (rows t₁).numbers c x) (rows t).blocks null_block (λ i h.
       let c : BasicBlock = get_or (rows t).blocks i null_block in
       let o = All-get_or (BlockFits t.counts (rows t).numbers) (rows t).blocks i null_block h w.sound.blocks in

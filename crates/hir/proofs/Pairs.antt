@@ -1,6 +1,6 @@
 -- What holds of any two elements: for one element more, one element changed, and a weaker fact.
 use Rattle.std.proofs.Common.{◌≡◌, ℕ, ◌+◌, ◌<◌, ◌≤◌, ◌≢◌, ◌⊎◌, List, [], ◌∷◌, ◌++◌, length, get_or, set, sym, refl, ap, ◌∙◌, subst, inl, inr, arith, length-append, length-set, get_or-set_other, get_or-set_same}
-use Rattle.std.specs.List.{AllByRecursion as All}
+use Rattle.std.specs.List.{AllByRecursion}
 use Rattle.std.proofs.lemmas.List.{get_or_default, get_or_append_left, get_or_push, length_push}
 use Rattle.std.proofs.ByRecursion.{All-get_or, All-from_get_or}
 use Rattle.hir.specs.WellFormed.{Pairwise}
@@ -46,11 +46,11 @@ module _ {A : Type 0} (P : A → A → Type 0) where
       ])
 
   -- where each element has Q, one fact gives the other
-  pub pairwise_under : (Q : A → Type 0) (R : A → A → Type 0) → ((x y : A) → Q x → Q y → P x y → R x y) → (xs : List A) → All Q xs → Pairwise P xs → Pairwise R xs
+  pub pairwise_under : (Q : A → Type 0) (R : A → A → Type 0) → ((x y : A) → Q x → Q y → P x y → R x y) → (xs : List A) → AllByRecursion Q xs → Pairwise P xs → Pairwise R xs
   pairwise_under Q R f xs a p i j d hi hj ne = f (get_or xs i d) (get_or xs j d) (All-get_or Q xs i d hi a) (All-get_or Q xs j d hj a) (p i j d hi hj ne)
 
 -- each element has P, one of them changed
-pub all_but_set : {A : Type 0} (P : A → Type 0) (xs : List A) (n : ℕ) (y e : A) → n < length xs → ((i : ℕ) → i < length xs → i ≢ n → P (get_or xs i e)) → P y → All P (set xs n y)
+pub all_but_set : {A : Type 0} (P : A → Type 0) (xs : List A) (n : ℕ) (y e : A) → n < length xs → ((i : ℕ) → i < length xs → i ≢ n → P (get_or xs i e)) → P y → AllByRecursion P (set xs n y)
 all_but_set P xs n y e h p q = All-from_get_or P (set xs n y) e (λ i hi.
     let s = length-set xs n y in
     elim (cases_eq i n) [

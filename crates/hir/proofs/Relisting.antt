@@ -1,6 +1,6 @@
 -- A block is given another list, and the list table changes with it: what the view becomes, and that the store stays sound.
 use Rattle.std.proofs.Common.{◌≡◌, ℕ, zero, suc, ◌+◌, ◌<◌, ◌≤◌, ◌≢◌, ◌⊎◌, List, [], ◌∷◌, ◌++◌, map, length, get_or, set, sym, refl, ap, ◌∙◌, subst, inl, inr, arith, length-set}
-use Rattle.std.specs.List.{AllByRecursion as All}
+use Rattle.std.specs.List.{AllByRecursion}
 use Rattle.std.proofs.ByRecursion.{All-get_or, All-weaker}
 use Rattle.rules.specs.Lists.{changed}
 use Rattle.rules.specs.Views.{InstructionV, BlockV, FunctionV, Hir, with_rows, with_blocks, with_list}
@@ -112,22 +112,22 @@ module _ (r : Rows) (ms : List ℕ) (n : ℕ) (run : Run) (ns : List ℕ) (insid
     }
 
   -- d are the counts after it; only that of the numbers may differ from c
-  module _ (c d : Counts) (w : Sound c r) (alike : More c d) (run_fits : RunFits run d.numbers) (fit : All (λ m. m < d.instructions) ns) (once : Pairwise ◌≢◌ ns)
+  module _ (c d : Counts) (w : Sound c r) (alike : More c d) (run_fits : RunFits run d.numbers) (fit : AllByRecursion (λ m. m < d.instructions) ns) (once : Pairwise ◌≢◌ ns)
       (own : Clear run (b n).preds)
       (clear : (i : ℕ) → i < length r.blocks → i ≢ n → Clear (b i).instructions run × Clear (b i).preds run)
       (unlike : (i : ℕ) → i < length r.blocks → i ≢ n → Unlike (in_run r.numbers (b i).instructions) ns) where
     old_fits : (i : ℕ) → i < length r.blocks → BlockFits c r.numbers (b i)
     old_fits i h = All-get_or (BlockFits c r.numbers) r.blocks i null_block h w.blocks
 
-    named_still : (i : ℕ) → i < length r.blocks → All (λ m. m < d.blocks) (in_run ms (b i).preds)
-    named_still i h = subst (All (λ m. m < d.blocks)) (sym (preds i h)) (All-weaker (λ m. m < c.blocks) (λ m. m < d.blocks) (λ m l. omega (arith, alike.blocks)) (in_run r.numbers (b i).preds) (old_fits i h).named)
+    named_still : (i : ℕ) → i < length r.blocks → AllByRecursion (λ m. m < d.blocks) (in_run ms (b i).preds)
+    named_still i h = subst (AllByRecursion (λ m. m < d.blocks)) (sym (preds i h)) (All-weaker (λ m. m < c.blocks) (λ m. m < d.blocks) (λ m l. omega (arith, alike.blocks)) (in_run r.numbers (b i).preds) (old_fits i h).named)
 
     other_fits : (i : ℕ) → i < length r.blocks → i ≢ n → BlockFits d ms (b i)
     other_fits i h ne = let o = old_fits i h in record {
       places = omega (arith, o.places, alike.places);
       instructions = omega (arith, o.instructions, alike.numbers);
       preds = omega (arith, o.preds, alike.numbers);
-      listed = subst (All (λ m. m < d.instructions)) (sym (lists i h ne)) (All-weaker (λ m. m < c.instructions) (λ m. m < d.instructions) (λ m l. omega (arith, alike.instructions)) (in_run r.numbers (b i).instructions) o.listed);
+      listed = subst (AllByRecursion (λ m. m < d.instructions)) (sym (lists i h ne)) (All-weaker (λ m. m < c.instructions) (λ m. m < d.instructions) (λ m l. omega (arith, alike.instructions)) (in_run r.numbers (b i).instructions) o.listed);
       named = named_still i h;
       once = subst (λ (l : List ℕ). Pairwise ◌≢◌ l) (sym (lists i h ne)) o.once;
       own = o.own;
@@ -138,7 +138,7 @@ module _ (r : Rows) (ms : List ℕ) (n : ℕ) (run : Run) (ns : List ℕ) (insid
       places = omega (arith, o.places, alike.places);
       instructions = run_fits;
       preds = omega (arith, o.preds, alike.numbers);
-      listed = subst (All (λ m. m < d.instructions)) (sym here) fit;
+      listed = subst (AllByRecursion (λ m. m < d.instructions)) (sym here) fit;
       named = named_still n inside;
       once = subst (λ (l : List ℕ). Pairwise ◌≢◌ l) (sym here) once;
       own = own;

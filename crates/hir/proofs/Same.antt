@@ -1,7 +1,7 @@
 -- Used rows that stand are seen the same when rows are appended.
 use Rattle.std.proofs.Common.{◌≡◌, ℕ, ◌+◌, ◌<◌, ◌≤◌, Bool, true, false, ◌&&◌, ◌||◌, eqb, List, [], ◌∷◌, ◌++◌, map, length, get_or, take, drop, Some, None, Option, sym, refl, ap, ◌∙◌, subst, append_assoc, append-nil, arith, length-append}
 use mathlib.Core.List.{map-append}
-use Rattle.std.specs.List.{AllByRecursion as All}
+use Rattle.std.specs.List.{AllByRecursion}
 use Rattle.std.proofs.lemmas.List.{get_or_append_left}
 use Rattle.std.proofs.ByRecursion.{All-get_or, All-take, All-drop}
 use Rattle.rules.specs.Lists.{any}
@@ -54,11 +54,11 @@ pub record Stays (r s : Rows) : Type 0 where
 abbrev pub stays : (r s : Rows) → Extends r s → Stays r s
 stays r s e = record { text = e.text; places = e.places; instructions = e.instructions }
 
-pub map_same : {A B : Type 0} (P : A → Type 0) (f g : A → B) → ((x : A) → P x → f x ≡ g x) → (xs : List A) → All P xs → map f xs ≡ map g xs
+pub map_same : {A B : Type 0} (P : A → Type 0) (f g : A → B) → ((x : A) → P x → f x ≡ g x) → (xs : List A) → AllByRecursion P xs → map f xs ≡ map g xs
 map_same P f g h [] a = refl
 map_same P f g h (x ∷ xs) a = λ i. h x a.0 i ∷ map_same P f g h xs a.1 i
 
-any_same : {A : Type 0} (P : A → Type 0) (f g : A → Bool) → ((x : A) → P x → f x ≡ g x) → (xs : List A) → All P xs → any f xs ≡ any g xs
+any_same : {A : Type 0} (P : A → Type 0) (f g : A → Bool) → ((x : A) → P x → f x ≡ g x) → (xs : List A) → AllByRecursion P xs → any f xs ≡ any g xs
 any_same P f g h [] a = refl
 any_same P f g h (x ∷ xs) a = λ i. h x a.0 i || any_same P f g h xs a.1 i
 
@@ -66,7 +66,7 @@ any_append : {A : Type 0} (f : A → Bool) (xs ys : List A) → any f (xs ++ ys)
 any_append f [] ys = refl
 any_append f (x ∷ xs) ys = elim (f x) as (λ b. (b || any f (xs ++ ys)) ≡ ((b || any f xs) || any f ys)) [ true ↦ refl | false ↦ any_append f xs ys ]
 
-all_in_run : {A : Type 0} (P : A → Type 0) (run : Run) (xs : List A) → All P xs → All P (in_run xs run)
+all_in_run : {A : Type 0} (P : A → Type 0) (run : Run) (xs : List A) → AllByRecursion P xs → AllByRecursion P (in_run xs run)
 all_in_run P run xs a = All-take P run.count (drop run.first xs) (All-drop P run.first xs a)
 
 module _ (r s : Rows) (e : Stays r s) where
@@ -102,7 +102,7 @@ module _ (r s : Rows) (e : Stays r s) where
       ∙ ap (instruction_view s) (get_or_append_left r.instructions e.instructions.0 null_instruction n h)
       ∙ instruction_same w (get_or r.instructions n null_instruction) (All-get_or (InstructionFits (sizes r)) r.instructions n null_instruction h w.instructions)
 
-  pub instructions_at_same : Sound (sizes r) r → (ns : List ℕ) → All (λ n. n < length r.instructions) ns → instructions_at s ns ≡ instructions_at r ns
+  pub instructions_at_same : Sound (sizes r) r → (ns : List ℕ) → AllByRecursion (λ n. n < length r.instructions) ns → instructions_at s ns ≡ instructions_at r ns
   instructions_at_same w ns a = map_same (λ n. n < length r.instructions) (instruction_at s) (instruction_at r) (instruction_at_same w) ns a
 
   pub bears_same : (n : Bytes) (x : Instruction) → InstructionFits (sizes r) x → bears_name (instruction_view s x) n ≡ bears_name (instruction_view r x) n

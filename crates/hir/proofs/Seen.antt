@@ -1,6 +1,6 @@
 -- What a row, its places and a block's list are, as the code reads them.
 use Rattle.std.proofs.Common.{◌≡◌, ℕ, zero, suc, ◌+◌, ◌-◌, ◌<◌, ◌≤◌, List, [], ◌∷◌, map, length, get_or, take, drop, sym, refl, ap, ◌∙◌, subst, arith, length-take-le, get_or-take}
-use Rattle.std.specs.List.{AllByRecursion as All}
+use Rattle.std.specs.List.{AllByRecursion}
 use Rattle.std.proofs.ByRecursion.{All-get_or, All-take, All-drop}
 use Rattle.std.proofs.lemmas.List.{get_or-map, length-map}
 use Rattle.rules.specs.Views.{InstructionV, BlockV, FunctionV, Hir, no_function, function_at, block_rows, rows_at}
@@ -46,8 +46,8 @@ module _ (t : Tables) (w : Readable t) (n : ℕ) (h : n < t.counts.instructions)
   pub places_read : map (place_view (view t).text) (take (row.places.first + row.places.count - row.places.first) (drop row.places.first t.places)) ≡ (instruction_at (rows t) n).places
   places_read = ap (map (place_view (view t).text)) (slice_run row.places t.counts.places t.places (omega (arith, w.counted.places.in_table)) row_fits.places) ∙ ap (λ (x : InstructionV). x.places) row_seen
 
-  pub places_fit : All (PlaceFits t.counts) (take (row.places.first + row.places.count - row.places.first) (drop row.places.first t.places))
-  places_fit = subst (All (PlaceFits t.counts)) (sym (slice_run row.places t.counts.places t.places (omega (arith, w.counted.places.in_table)) row_fits.places))
+  pub places_fit : AllByRecursion (PlaceFits t.counts) (take (row.places.first + row.places.count - row.places.first) (drop row.places.first t.places))
+  places_fit = subst (AllByRecursion (PlaceFits t.counts)) (sym (slice_run row.places t.counts.places t.places (omega (arith, w.counted.places.in_table)) row_fits.places))
       (All-take (PlaceFits t.counts) row.places.count (drop row.places.first (rows t).places) (All-drop (PlaceFits t.counts) row.places.first (rows t).places w.places))
 
 block_rows_at : (r : Rows) (bs : List BasicBlock) (k : ℕ) (d : BasicBlock) → k < length bs → block_rows (map (block_view r) bs) k ≡ (block_view r (get_or bs k d)).rows
@@ -76,5 +76,5 @@ module _ (t : Tables) (w : WellFormed t) (f k : ℕ) (has : HasBlock t f k) wher
   pub list_read : take ((block_of t f k).instructions.first + (block_of t f k).instructions.count - (block_of t f k).instructions.first) (drop (block_of t f k).instructions.first t.numbers) ≡ in_run (rows t).numbers (block_of t f k).instructions
   list_read = slice_run (block_of t f k).instructions t.counts.numbers t.numbers (omega (arith, w.counted.numbers.in_table)) (block_fits_at t w f k has).instructions
 
-  pub list_listed : All (λ n. n < t.counts.instructions) (in_run (rows t).numbers (block_of t f k).instructions)
+  pub list_listed : AllByRecursion (λ n. n < t.counts.instructions) (in_run (rows t).numbers (block_of t f k).instructions)
   list_listed = (block_fits_at t w f k has).listed

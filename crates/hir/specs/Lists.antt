@@ -2,7 +2,7 @@
 -- have so that a store stays well formed.
 use Rattle.std.specs.Prelude.{◌≡◌, ℕ, ◌+◌, ◌<◌, ◌≤◌, ◌≢◌, List, length, get_or, slice_index_or}
 use Rattle.std.proofs.Math.Seq.{paste}
-use Rattle.std.specs.List.{AllByRecursion as All}
+use Rattle.std.specs.List.{AllByRecursion}
 use Rattle.hir.specs.declared.rows.Run.{Run}
 use Rattle.hir.specs.declared.rows.BasicBlock.{BasicBlock}
 use Rattle.hir.specs.declared.rows.HirFunction.{HirFunction}
@@ -26,7 +26,7 @@ with_listed_block t b xs = with_block (with_numbers t xs) (listing_run b (next_r
 
 -- a list that a block can have: used rows, none of them twice
 pub record ListFits (t : Tables) (xs : List ℕ) : Type 0 where
-  pub listed : All (λ n. n < t.counts.instructions) xs
+  pub listed : AllByRecursion (λ n. n < t.counts.instructions) xs
   pub once : Pairwise ◌≢◌ xs
 
 -- no block lists one of these rows; a new block has no predecessors
@@ -34,12 +34,12 @@ pub record BlockFitsIn (t : Tables) (b : BasicBlock) (xs : List ℕ) : Type 0 wh
   pub places : RunFits b.places t.counts.places
   pub preds : b.preds ≡ null_run
   pub list : ListFits t xs
-  pub unlisted : All (λ (c : BasicBlock). Unlike (in_run (rows t).numbers c.instructions) xs) (rows t).blocks
+  pub unlisted : AllByRecursion (λ (c : BasicBlock). Unlike (in_run (rows t).numbers c.instructions) xs) (rows t).blocks
 
 -- A function appended: its blocks are no other's.
 pub record FunctionFitsIn (t : Tables) (f : HirFunction) : Type 0 where
   pub fits : FunctionFits t.counts f
-  pub apart : All (λ (g : HirFunction). FunctionsApart g f) (rows t).functions
+  pub apart : AllByRecursion (λ (g : HirFunction). FunctionsApart g f) (rows t).functions
 
 -- A new list for a block.
 

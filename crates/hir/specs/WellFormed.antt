@@ -1,7 +1,7 @@
 -- What a store has whose form was checked: every number is that of a used row, every run and every name lies within what is used, and
 -- no two lists, predecessor runs or functions' blocks share a row.
 use Rattle.std.specs.Prelude.{◌≡◌, ℕ, ◌+◌, ◌<◌, ◌≤◌, Bool, true, ◌||◌, ◌≢◌, ◌⊎◌, List, length, Some, None, Option, ◌==◌, slice_index_or}
-use Rattle.std.specs.List.{AllByRecursion as All}
+use Rattle.std.specs.List.{AllByRecursion}
 use Rattle.rules.specs.Kinds.{object_method_kind, function_expression_kind}
 use Rattle.hir.specs.declared.rows.Name.{Name}
 use Rattle.hir.specs.declared.rows.Run.{Run}
@@ -94,8 +94,8 @@ pub record BlockFits (c : Counts) (numbers : List ℕ) (b : BasicBlock) : Type 0
   pub places : RunFits b.places c.places
   pub instructions : RunFits b.instructions c.numbers
   pub preds : RunFits b.preds c.numbers
-  pub listed : All (λ n. n < c.instructions) (in_run numbers b.instructions)
-  pub named : All (λ n. n < c.blocks) (in_run numbers b.preds)
+  pub listed : AllByRecursion (λ n. n < c.instructions) (in_run numbers b.instructions)
+  pub named : AllByRecursion (λ n. n < c.blocks) (in_run numbers b.preds)
   pub once : Pairwise ◌≢◌ (in_run numbers b.instructions)
   pub own : Clear b.instructions b.preds
 
@@ -125,11 +125,11 @@ FunctionsApart f g = Clear f.blocks g.blocks
 
 -- The used rows together.
 pub record Sound (c : Counts) (r : Rows) : Type 0 where
-  pub identifiers : All (IdentifierFits c) r.identifiers
-  pub places : All (PlaceFits c) r.places
-  pub instructions : All (InstructionFits c) r.instructions
-  pub blocks : All (BlockFits c r.numbers) r.blocks
-  pub functions : All (FunctionFits c) r.functions
+  pub identifiers : AllByRecursion (IdentifierFits c) r.identifiers
+  pub places : AllByRecursion (PlaceFits c) r.places
+  pub instructions : AllByRecursion (InstructionFits c) r.instructions
+  pub blocks : AllByRecursion (BlockFits c r.numbers) r.blocks
+  pub functions : AllByRecursion (FunctionFits c) r.functions
   pub blocks_apart : Pairwise (BlocksApart r.numbers) r.blocks
   pub functions_apart : Pairwise FunctionsApart r.functions
 
@@ -150,5 +150,5 @@ pub record WellFormed (t : Tables) : Type 0 where
 -- What reading rows and places needs of it; lists and blocks play no part.
 pub record Readable (t : Tables) : Type 0 where
   pub counted : Counted t
-  pub places : All (PlaceFits t.counts) (rows t).places
-  pub instructions : All (InstructionFits t.counts) (rows t).instructions
+  pub places : AllByRecursion (PlaceFits t.counts) (rows t).places
+  pub instructions : AllByRecursion (InstructionFits t.counts) (rows t).instructions

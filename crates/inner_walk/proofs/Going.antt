@@ -1,7 +1,7 @@
 -- The walk through a function, part by part.
 use Rattle.std.proofs.Common.{◌≡◌, ℕ, zero, suc, ◌+◌, ◌-◌, ◌<◌, ◌≤◌, Bool, true, false, ◌≢◌, ◌⊎◌, List, [], ◌∷◌, ◌++◌, length, get_or, take, drop, set, sym, refl, ap, ◌∙◌, subst, inl, inr, append_assoc, append-nil, add-one, sub-one, arith}
 use lib.Seq.{take-length}
-use Rattle.std.specs.List.{AllByRecursion as All}
+use Rattle.std.specs.List.{AllByRecursion}
 use Rattle.std.proofs.ByRecursion.{All-push}
 use Rattle.std.proofs.lemmas.List.{drop_all}
 use Rattle.rules.specs.Lists.{gathered, backwards}
@@ -24,11 +24,11 @@ gathered-++ : {A B : Type 0} (f : A → List B) (xs ys : List A) → gathered f 
 gathered-++ f [] ys = refl
 gathered-++ f (x ∷ xs) ys = ap (λ zs. f x ++ zs) (gathered-++ f xs ys) ∙ sym (append_assoc (f x) (gathered f xs) (gathered f ys))
 
-all_left : {A : Type 0} (P : A → Type 0) (xs ys : List A) → All P (xs ++ ys) → All P xs
+all_left : {A : Type 0} (P : A → Type 0) (xs ys : List A) → AllByRecursion P (xs ++ ys) → AllByRecursion P xs
 all_left P [] ys a = tt
 all_left P (x ∷ xs) ys a = (a.0, all_left P xs ys a.1)
 
-all_right : {A : Type 0} (P : A → Type 0) (xs ys : List A) → All P (xs ++ ys) → All P ys
+all_right : {A : Type 0} (P : A → Type 0) (xs ys : List A) → AllByRecursion P (xs ++ ys) → AllByRecursion P ys
 all_right P [] ys a = a
 all_right P (x ∷ xs) ys a = all_right P xs ys a.1
 
@@ -36,7 +36,7 @@ all_right P (x ∷ xs) ys a = all_right P xs ys a.1
 pub record Going (d : ℕ) (h : Hir) (f : ℕ) (rest before now : List ℕ) : Type 0 where
   pub gone : List ℕ
   pub whole : gone ++ rest ≡ inner_of (function_at h f).blocks
-  pub deep : All (NoDeeper d h) gone
+  pub deep : AllByRecursion (NoDeeper d h) gone
   pub passed : Passed h (f ∷ gathered (on_walk d h) gone) before now
 
 pub started : (d : ℕ) (h : Hir) (f : ℕ) (before now : List ℕ) → Passed h (f ∷ []) before now → Going d h f (inner_of (function_at h f).blocks) before now
@@ -61,7 +61,7 @@ ended zero h f before now z s = absurd (omega arith)
 ended (suc d) h f before now z s' =
     let s : Going d h f [] before now = subst (λ m. Going m h f [] before now) (sub-one (suc d)) s' in
     let e : s.gone ≡ inner_of (function_at h f).blocks = sym (append-nil s.gone) ∙ s.whole in
-    record { deep = subst (All (NoDeeper d h)) e s.deep; passed = subst (λ gs. Passed h (f ∷ gathered (on_walk d h) gs) before now) e s.passed }
+    record { deep = subst (AllByRecursion (NoDeeper d h)) e s.deep; passed = subst (λ gs. Passed h (f ∷ gathered (on_walk d h) gs) before now) e s.passed }
 
 pub turned_back : (n : ℕ) (h : Hir) (f g : ℕ) (rest before now : List ℕ) → 0 < n → Going (n - 1) h f (g ∷ rest) before now → (Walkable (n - 1) h g now → ⊥) → Walkable n h f before → ⊥
 turned_back zero h f g rest before now z s u w = omega arith
@@ -72,7 +72,7 @@ turned_back (suc d) h f g rest before now z s' u' w =
     let fs = f ∷ gathered (on_walk d h) gone in
     let e : f ∷ gathered (on_walk d h) (inner_of (function_at h f).blocks) ≡ fs ++ (on_walk d h g ++ gathered (on_walk d h) rest) = ap (λ zs. f ∷ gathered (on_walk d h) zs) (sym s.whole) ∙ ap (λ zs. f ∷ zs) (gathered-++ (on_walk d h) gone (g ∷ rest)) in
     let a = able_rest h fs (on_walk d h g ++ gathered (on_walk d h) rest) before now s.passed (subst (λ zs. Passable h zs before) e w.able) in
-    u (record { deep = (all_right (NoDeeper d h) gone (g ∷ rest) (subst (All (NoDeeper d h)) (sym s.whole) w.deep)).0; able = able_first h (on_walk d h g) (gathered (on_walk d h) rest) now a })
+    u (record { deep = (all_right (NoDeeper d h) gone (g ∷ rest) (subst (AllByRecursion (NoDeeper d h)) (sym s.whole) w.deep)).0; able = able_first h (on_walk d h g) (gathered (on_walk d h) rest) now a })
 
 -- What is left of a function's inner functions: of block k the first j rows, and the blocks after it.
 

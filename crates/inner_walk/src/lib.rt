@@ -1,7 +1,6 @@
 //! Refusal 4: the functions on the walk.
 #![tactic(auto)]
 
-
 ghost use Rattle.std.specs.Prelude.{ℕ, ◌<◌, ◌≤◌, length, MatchBool};
 ghost use Rattle.hir.specs.Tables.{tables};
 ghost use Rattle.hir.specs.View.{view};

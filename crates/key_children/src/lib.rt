@@ -1,9 +1,8 @@
 //! Refusal 7: no element has a child whose identifier is named key.
 #![tactic(auto)]
 
-
 ghost use Rattle.std.specs.Prelude.{◌≡◌, ℕ, ◌<◌, map, length, MatchBool, slice_index};
-ghost use Rattle.std.specs.List.{AllByRecursion as All};
+ghost use Rattle.std.specs.List.{AllByRecursion};
 ghost use Rattle.rules.specs.Names.{is_key};
 ghost use Rattle.rules.specs.Views.{function_at};
 ghost use Rattle.hir.specs.Tables.{tables};
@@ -33,8 +32,8 @@ pub fn function_keyless(store: &Store<'_>, function: FunctionId) -> bool
 
 fn list_keyless(store: &Store<'_>, list: &[u32]) -> bool
     requires well { WellFormed (tables store.now) }
-    requires listed { All (λ n. n < store.now.counts.instructions) list.now }
-    ensures { MatchBool result (All (Keyless (view (tables store.now))) (instructions_at (rows (tables store.now)) list.now)) (All (Keyless (view (tables store.now))) (instructions_at (rows (tables store.now)) list.now) → ⊥) }
+    requires listed { AllByRecursion (λ n. n < store.now.counts.instructions) list.now }
+    ensures { MatchBool result (AllByRecursion (Keyless (view (tables store.now))) (instructions_at (rows (tables store.now)) list.now)) (AllByRecursion (Keyless (view (tables store.now))) (instructions_at (rows (tables store.now)) list.now) → ⊥) }
 {
     for k in 0..list.len() {
         if !row_keyless(store, list, k) {
@@ -46,7 +45,7 @@ fn list_keyless(store: &Store<'_>, list: &[u32]) -> bool
 
 fn row_keyless(store: &Store<'_>, list: &[u32], k: usize) -> bool
     requires well { WellFormed (tables store.now) }
-    requires listed { All (λ n. n < store.now.counts.instructions) list.now }
+    requires listed { AllByRecursion (λ n. n < store.now.counts.instructions) list.now }
     requires within { k < length list.now }
     ensures { MatchBool result (Keyless (view (tables store.now)) (instruction_at (rows (tables store.now)) (slice_index list.now k))) (Keyless (view (tables store.now)) (instruction_at (rows (tables store.now)) (slice_index list.now k)) → ⊥) }
 {
@@ -58,8 +57,8 @@ fn row_keyless(store: &Store<'_>, list: &[u32], k: usize) -> bool
 
 fn places_keyless(store: &Store<'_>, places: &[Place]) -> bool
     requires well { WellFormed (tables store.now) }
-    requires fit { All (PlaceFits store.now.counts) places.now }
-    ensures { MatchBool result (All (ChildKeyless (view (tables store.now))) (map (place_view (view (tables store.now)).text) places.now)) (All (ChildKeyless (view (tables store.now))) (map (place_view (view (tables store.now)).text) places.now) → ⊥) }
+    requires fit { AllByRecursion (PlaceFits store.now.counts) places.now }
+    ensures { MatchBool result (AllByRecursion (ChildKeyless (view (tables store.now))) (map (place_view (view (tables store.now)).text) places.now)) (AllByRecursion (ChildKeyless (view (tables store.now))) (map (place_view (view (tables store.now)).text) places.now) → ⊥) }
 {
     for i in 0..places.len() {
         if places[i].role == 4 && named_key(store, places[i].identifier) {

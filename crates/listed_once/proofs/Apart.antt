@@ -1,6 +1,6 @@
 -- What the four tests show together, and what they show each.
 use Rattle.std.proofs.Common.{◌≡◌, ℕ, ◌+◌, ◌-◌, ◌<◌, ◌≤◌, ◌≢◌, ◌⊎◌, List, length, get_or, sym, ◌∙◌, subst, inl, inr, arith, length-take-le}
-use Rattle.std.specs.List.{AllByRecursion as All}
+use Rattle.std.specs.List.{AllByRecursion}
 use Rattle.std.proofs.lemmas.List.{get_or_default}
 use Rattle.std.proofs.ByRecursion.{All-get_or, All-from_get_or, All-weaker}
 use Rattle.std.proofs.lemmas.Bool.{cases_eq}
@@ -24,7 +24,7 @@ use Rattle.listed_once.proofs.Marks.{as_list, as_preds}
 pub record Parts (c : Counts) (r : Rows) : Type 0 where
   pub lists : AllClear (list_or_preds r.blocks) (length r.blocks + length r.blocks)
   pub functions : AllClear (λ f. (get_or r.functions f null_function).blocks) (length r.functions)
-  pub named : All (BlockNamed r.numbers c.instructions c.blocks) r.blocks
+  pub named : AllByRecursion (BlockNamed r.numbers c.instructions c.blocks) r.blocks
   pub once : ListedOnce r.blocks r.numbers
 
 -- a listed row by its offset in the block's list
@@ -66,18 +66,18 @@ pub together : (c : Counts) (r : Rows) → Parts c r → RowsApart c r
 together c r p =
     let bs = r.blocks in
     record {
-      listed = All-weaker (BlockNamed r.numbers c.instructions c.blocks) (λ (b : BasicBlock). All (λ n. n < c.instructions) (in_run r.numbers b.instructions)) (λ b h. h.listed) bs p.named;
-      preds = All-weaker (BlockNamed r.numbers c.instructions c.blocks) (λ (b : BasicBlock). All (λ n. n < c.blocks) (in_run r.numbers b.preds)) (λ b h. h.preds) bs p.named;
+      listed = All-weaker (BlockNamed r.numbers c.instructions c.blocks) (λ (b : BasicBlock). AllByRecursion (λ n. n < c.instructions) (in_run r.numbers b.instructions)) (λ b h. h.listed) bs p.named;
+      preds = All-weaker (BlockNamed r.numbers c.instructions c.blocks) (λ (b : BasicBlock). AllByRecursion (λ n. n < c.blocks) (in_run r.numbers b.preds)) (λ b h. h.preds) bs p.named;
       once = All-from_get_or (λ (b : BasicBlock). Pairwise ◌≢◌ (in_run r.numbers b.instructions)) bs null_block (list_once bs r.numbers p.once);
       own = All-from_get_or (λ (b : BasicBlock). Clear b.instructions b.preds) bs null_block (own_runs bs p.lists);
       blocks = pairwise_at (BlocksApart r.numbers) bs null_block (two_blocks bs r.numbers p.lists p.once);
       functions = pairwise_at FunctionsApart r.functions null_function p.functions;
     }
 
-pub then_named : (c : Counts) (r : Rows) → RowsApart c r → All (BlockNamed r.numbers c.instructions c.blocks) r.blocks
+pub then_named : (c : Counts) (r : Rows) → RowsApart c r → AllByRecursion (BlockNamed r.numbers c.instructions c.blocks) r.blocks
 then_named c r a = All-from_get_or (BlockNamed r.numbers c.instructions c.blocks) r.blocks null_block (λ i h. record {
-  listed = All-get_or (λ (b : BasicBlock). All (λ n. n < c.instructions) (in_run r.numbers b.instructions)) r.blocks i null_block h a.listed;
-  preds = All-get_or (λ (b : BasicBlock). All (λ n. n < c.blocks) (in_run r.numbers b.preds)) r.blocks i null_block h a.preds;
+  listed = All-get_or (λ (b : BasicBlock). AllByRecursion (λ n. n < c.instructions) (in_run r.numbers b.instructions)) r.blocks i null_block h a.listed;
+  preds = All-get_or (λ (b : BasicBlock). AllByRecursion (λ n. n < c.blocks) (in_run r.numbers b.preds)) r.blocks i null_block h a.preds;
 })
 
 pub then_once : (c : Counts) (r : Rows) → ListsFit r.blocks r.numbers → RowsApart c r → ListedOnce r.blocks r.numbers
@@ -150,7 +150,7 @@ blocks_fit t m f h i l = let g = (All-get_or (FunctionFormed t.counts (rows t).p
 pub all_numbers : (t : Tables) → Counted t → t.counts.numbers ≤ length (rows t).numbers
 all_numbers t h = let e = length-take-le t.counts.numbers t.numbers (let g = h.numbers.in_table in omega arith) in omega arith
 
-pub named_below : (bs : List BasicBlock) (ns : List ℕ) (rows' blocks m : ℕ) → ListsFit bs ns → All (BlockNamed ns rows' blocks) bs → rows' ≤ m → ListedBelow bs ns m
+pub named_below : (bs : List BasicBlock) (ns : List ℕ) (rows' blocks m : ℕ) → ListsFit bs ns → AllByRecursion (BlockNamed ns rows' blocks) bs → rows' ≤ m → ListedBelow bs ns m
 named_below bs ns rows' blocks m f a h b o hb ho =
     let run : Run = (get_or bs b null_block).instructions in
     let fb = f b hb in

@@ -1,7 +1,7 @@
 -- Listed rows by the position that lists them.
 use Rattle.std.specs.Prelude.{◌≡◌, ℕ, ◌+◌, ◌<◌, ◌≤◌, List, length, slice_index, slice_index_or}
 use Rattle.hir.specs.declared.rows.BasicBlock.{BasicBlock}
-use Rattle.std.specs.List.{AllByRecursion as All}
+use Rattle.std.specs.List.{AllByRecursion}
 use Rattle.hir.specs.Used.{in_run}
 use Rattle.hir.specs.View.{null_block}
 
@@ -28,5 +28,5 @@ ListedOnce bs ns =
 
 -- a block lists used rows, and names used blocks as its predecessors
 pub record BlockNamed (ns : List ℕ) (rows blocks : ℕ) (b : BasicBlock) : Type 0 where
-  pub listed : All (λ n. n < rows) (in_run ns b.instructions)
-  pub preds : All (λ n. n < blocks) (in_run ns b.preds)
+  pub listed : AllByRecursion (λ n. n < rows) (in_run ns b.instructions)
+  pub preds : AllByRecursion (λ n. n < blocks) (in_run ns b.preds)

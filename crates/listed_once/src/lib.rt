@@ -2,7 +2,6 @@
 //! listed twice. Marks are working memory, all zero at first.
 #![tactic(auto)]
 
-
 ghost use Rattle.std.specs.Prelude.{ℕ, ◌≤◌, length, MatchBool};
 ghost use Rattle.hir.specs.Tables.{tables};
 ghost use Rattle.hir.specs.View.{rows as used_rows};

@@ -1,5 +1,5 @@
 ghost use Rattle.std.specs.Prelude.{ℕ, ◌+◌, ◌<◌, ◌≤◌, length, MatchBool, slice_index_or};
-ghost use Rattle.std.specs.List.{AllByRecursion as All};
+ghost use Rattle.std.specs.List.{AllByRecursion};
 ghost use Rattle.hir.specs.Used.{in_run};
 ghost use Rattle.hir.specs.View.{null_block};
 ghost use Rattle.hir.specs.WellFormed.{RunFits};
@@ -32,7 +32,7 @@ pub fn rows_once(blocks: &[BasicBlock], numbers: &[u32], marks: &mut [u8]) -> bo
 pub fn lists_named(blocks: &[BasicBlock], numbers: &[u32], rows: u32, used: u32) -> bool
     requires lists { (b : ℕ) → b < length blocks.now → RunFits (slice_index_or blocks.now b null_block).instructions (length numbers.now) }
     requires preds { (b : ℕ) → b < length blocks.now → RunFits (slice_index_or blocks.now b null_block).preds (length numbers.now) }
-    ensures { MatchBool result (All (BlockNamed numbers.now rows used) blocks.now) (All (BlockNamed numbers.now rows used) blocks.now → ⊥) }
+    ensures { MatchBool result (AllByRecursion (BlockNamed numbers.now rows used) blocks.now) (AllByRecursion (BlockNamed numbers.now rows used) blocks.now → ⊥) }
 {
     for i in 0..blocks.len() {
         if !run_below(blocks[i].instructions, numbers, rows) {
@@ -47,7 +47,7 @@ pub fn lists_named(blocks: &[BasicBlock], numbers: &[u32], rows: u32, used: u32)
 
 fn run_below(run: Run, numbers: &[u32], bound: u32) -> bool
     requires { RunFits run (length numbers.now) }
-    ensures { MatchBool result (All (λ n. n < bound) (in_run numbers.now run)) (All (λ n. n < bound) (in_run numbers.now run) → ⊥) }
+    ensures { MatchBool result (AllByRecursion (λ n. n < bound) (in_run numbers.now run)) (AllByRecursion (λ n. n < bound) (in_run numbers.now run) → ⊥) }
 {
     let first = run.first as usize;
     all_below(&numbers[first..first + run.count as usize], bound)
@@ -55,7 +55,7 @@ fn run_below(run: Run, numbers: &[u32], bound: u32) -> bool
 
 // Every number is below the bound.
 fn all_below(numbers: &[u32], bound: u32) -> bool
-    ensures { MatchBool result (All (λ n. n < bound) numbers.now) (All (λ n. n < bound) numbers.now → ⊥) }
+    ensures { MatchBool result (AllByRecursion (λ n. n < bound) numbers.now) (AllByRecursion (λ n. n < bound) numbers.now → ⊥) }
 {
     for number in numbers {
         if *number >= bound {

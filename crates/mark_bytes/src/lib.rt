@@ -1,7 +1,6 @@
 //! Refusal 8: a mark byte for each row of the identifier table, all of them zero.
 #![tactic(auto)]
 
-
 ghost use Rattle.std.specs.Prelude.{MatchBool};
 ghost use Rattle.hir.specs.Tables.{tables};
 ghost use Rattle.refusals.specs.Conditions.{MarksReady};

@@ -1,6 +1,6 @@
 -- A group, by the numbers of its rows; that there is room for what comes of it, and what it then has taken.
 use Rattle.std.specs.Prelude.{◌≡◌, ℕ, ◌+◌, ◌^◌, ◌<◌, ◌≤◌, true, List, [], length}
-use Rattle.std.specs.List.{AllByRecursion as All}
+use Rattle.std.specs.List.{AllByRecursion}
 use Rattle.rules.specs.Views.{InstructionV, Hir, is_element}
 use Rattle.rules.specs.Emit.{Outcome, process_jsx_group}
 use Rattle.laws.specs.Allowances.{rows_counts}
@@ -17,11 +17,11 @@ props_limit = 65535
 -- The members of a group, in block order, and the loads passed so far, the latest first: used rows; members are elements of their form,
 -- with no more props than the limit, and loads have no places.
 pub record GroupGiven (t : Tables) (globals members : List ℕ) : Type 0 where
-  pub globals_used : All (λ n. n < t.counts.instructions) globals
-  pub members_used : All (λ n. n < t.counts.instructions) members
-  pub elements : All (λ (i : InstructionV). is_element i ≡ true) (instructions_at (rows t) members)
-  pub formed : All Formed (instructions_at (rows t) members)
-  pub loads : All (λ (i : InstructionV). i.places ≡ []) (instructions_at (rows t) globals)
+  pub globals_used : AllByRecursion (λ n. n < t.counts.instructions) globals
+  pub members_used : AllByRecursion (λ n. n < t.counts.instructions) members
+  pub elements : AllByRecursion (λ (i : InstructionV). is_element i ≡ true) (instructions_at (rows t) members)
+  pub formed : AllByRecursion Formed (instructions_at (rows t) members)
+  pub loads : AllByRecursion (λ (i : InstructionV). i.places ≡ []) (instructions_at (rows t) globals)
   pub few : (rows_counts (instructions_at (rows t) members)).attributes + (rows_counts (instructions_at (rows t) members)).children ≤ props_limit
 
 -- what becomes of the group, by the rules

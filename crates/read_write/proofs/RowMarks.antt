@@ -2,7 +2,7 @@
 use Rattle.std.proofs.Common.{◌≡◌, ℕ, zero, suc, ◌+◌, ◌-◌, ◌<◌, ◌≤◌, Bool, true, false, eqb, ◌≢◌, ◌⊎◌, List, [], ◌∷◌, ◌++◌, map, length, get_or, take, drop, sym, refl, ap, ◌∙◌, subst, inl, inr, append_assoc, arith, take-append-drop}
 use Rattle.std.proofs.lemmas.List.{at_drop_more}
 use Rattle.std.proofs.lemmas.Bool.{eq-eqb}
-use Rattle.std.specs.List.{AllByRecursion as All}
+use Rattle.std.specs.List.{AllByRecursion}
 use Rattle.std.proofs.ByRecursion.{All-weaker}
 use Rattle.std.proofs.lemmas.Bool.Decides.{eqb_tells}
 use Rattle.rules.specs.Kinds.{phi_kind}
@@ -120,5 +120,5 @@ module _ (r : Rows) (text : Bytes) (i : InstructionV) (x : Instruction) (ps : Li
   no_phi k = ap is_phi e ∙ elim (eqb_tells x.kind phi_kind) as (λ _. eqb x.kind phi_kind ≡ false) [ inl t ↦ absurd (k t.1) | inr t ↦ t.0 ]
 
 -- identifiers of used places have marks
-pub marks_for : (c : Counts) (ps : List Place) (n : ℕ) → c.identifiers ≤ n → All (PlaceFits c) ps → All (λ (p : Place). p.identifier.0 < n) ps
+pub marks_for : (c : Counts) (ps : List Place) (n : ℕ) → c.identifiers ≤ n → AllByRecursion (PlaceFits c) ps → AllByRecursion (λ (p : Place). p.identifier.0 < n) ps
 marks_for c ps n l a = All-weaker (PlaceFits c) (λ (p : Place). p.identifier.0 < n) (λ p h. let g = h.identifier in omega arith) ps a

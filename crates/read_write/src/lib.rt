@@ -1,7 +1,6 @@
 //! Refusal 6: a function writes no identifier twice, and no row but a phi reads what its block writes at or after it.
 #![tactic(auto)]
 
-
 mod places;
 mod rows;
 

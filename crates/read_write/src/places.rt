@@ -1,5 +1,5 @@
 ghost use Rattle.std.specs.Prelude.{ℕ, ◌<◌, [], ◌∷◌, length, MatchBool};
-ghost use Rattle.std.specs.List.{AllByRecursion as All};
+ghost use Rattle.std.specs.List.{AllByRecursion};
 ghost use Rattle.hir.specs.declared.rows.Place.{Place};
 ghost use Rattle.read_write.specs.Written.{Markable, Marked, read_in, Unnumbered, written_in};
 
@@ -20,7 +20,7 @@ pub fn mark(identifier: IdentifierId, base: u64, turn: u64, marks: &mut [u64]) -
 
 // The same of the written places.
 pub fn mark_places(places: &[Place], base: u64, turn: u64, marks: &mut [u64]) -> bool
-    requires within { All (λ (p : Place). p.identifier.0 < length marks.old) places.now }
+    requires within { AllByRecursion (λ (p : Place). p.identifier.0 < length marks.old) places.now }
     requires above { base < turn }
     ensures { MatchBool result (Marked base turn turn (written_in places.now) marks.old marks.new) (Markable base (written_in places.now) marks.old → ⊥) }
 {
@@ -34,7 +34,7 @@ pub fn mark_places(places: &[Place], base: u64, turn: u64, marks: &mut [u64]) ->
 
 // No place reads what is marked with this number.
 pub fn reads_in_time(places: &[Place], turn: u64, marks: &[u64]) -> bool
-    requires { All (λ (p : Place). p.identifier.0 < length marks.now) places.now }
+    requires { AllByRecursion (λ (p : Place). p.identifier.0 < length marks.now) places.now }
     ensures { MatchBool result (Unnumbered turn (read_in places.now) marks.now) (Unnumbered turn (read_in places.now) marks.now → ⊥) }
 {
     for i in 0..places.len() {

@@ -1,5 +1,5 @@
 ghost use Rattle.std.specs.Prelude.{ℕ, ◌+◌, ◌^◌, ◌<◌, ◌≤◌, length, MatchBool, slice_index};
-ghost use Rattle.std.specs.List.{AllByRecursion as All};
+ghost use Rattle.std.specs.List.{AllByRecursion};
 ghost use Rattle.rules.specs.Views.{function_at};
 ghost use Rattle.hir.specs.Tables.{tables};
 ghost use Rattle.hir.specs.View.{instruction_at, instructions_at, rows, view};
@@ -37,7 +37,7 @@ pub fn function_sound(store: &Store<'_>, function: FunctionId, base: u64, marks:
 
 fn list_sound(store: &Store<'_>, list: &[u32], base: u64, turn: u64, marks: &mut [u64]) -> bool
     requires readable { Readable (tables store.now) }
-    requires listed { All (λ n. n < store.now.counts.instructions) list.now }
+    requires listed { AllByRecursion (λ n. n < store.now.counts.instructions) list.now }
     requires within { store.now.counts.identifiers ≤ length marks.old }
     requires above { (base < turn) × (((x : ℕ) → slice_index marks.old x < turn)) }
     ensures { MatchBool result (RowsDone base turn (instructions_at (rows (tables store.now)) list.now) marks.old marks.new) (RowsSound base (instructions_at (rows (tables store.now)) list.now) marks.old → ⊥) }
@@ -61,7 +61,7 @@ fn row_sound(
     marks: &mut [u64],
 ) -> bool
     requires readable { Readable (tables store.now) }
-    requires listed { All (λ n. n < store.now.counts.instructions) list.now }
+    requires listed { AllByRecursion (λ n. n < store.now.counts.instructions) list.now }
     requires position { j < length list.now }
     requires within { store.now.counts.identifiers ≤ length marks.old }
     requires above { base < turn }

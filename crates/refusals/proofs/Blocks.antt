@@ -1,6 +1,6 @@
 -- What holds of every block of a function, block by block.
 use Rattle.std.proofs.Common.{◌≡◌, ℕ, zero, suc, ◌<◌, List, [], ◌∷◌, map, length, get_or, sym, refl, ap, ◌∙◌, subst, arith, get_or-take}
-use Rattle.std.specs.List.{AllByRecursion as All}
+use Rattle.std.specs.List.{AllByRecursion}
 use Rattle.std.proofs.lemmas.List.{get_or-map, length-map}
 use Rattle.std.proofs.ByRecursion.{All-get_or}
 use Rattle.rules.specs.Views.{InstructionV, BlockV, FunctionV, no_function, function_at, block_rows, rows_at}
@@ -13,11 +13,11 @@ use Rattle.hir.specs.WellFormed.{FunctionFits, WellFormed}
 use Rattle.hir.proofs.Runs.{length_run}
 use Rattle.hir.proofs.Growth.{sizes_are}
 
-pub all_blocks : (P : List InstructionV → Type 0) (bs : List BlockV) → ((k : ℕ) → k < length bs → P (block_rows bs k)) → All (λ (b : BlockV). P b.rows) bs
+pub all_blocks : (P : List InstructionV → Type 0) (bs : List BlockV) → ((k : ℕ) → k < length bs → P (block_rows bs k)) → AllByRecursion (λ (b : BlockV). P b.rows) bs
 all_blocks P [] h = tt
 all_blocks P (b ∷ bs) h = (h 0 (omega arith), all_blocks P bs (λ k l. h (suc k) (omega arith)))
 
-pub each_block : (P : List InstructionV → Type 0) (bs : List BlockV) → All (λ (b : BlockV). P b.rows) bs → (k : ℕ) → k < length bs → P (block_rows bs k)
+pub each_block : (P : List InstructionV → Type 0) (bs : List BlockV) → AllByRecursion (λ (b : BlockV). P b.rows) bs → (k : ℕ) → k < length bs → P (block_rows bs k)
 each_block P [] h k l = absurd (omega arith)
 each_block P (b ∷ bs) h zero l = h.0
 each_block P (b ∷ bs) h (suc k) l = each_block P bs h.1 k (omega arith)
@@ -44,8 +44,8 @@ module _ (t : Tables) (w : WellFormed t) (f : ℕ) (used : f < t.counts.function
       ∙ length_run (get_or t.functions f null_function).blocks (rows t).blocks (omega (arith, function_fits.blocks, ap (λ (c : Counts). c.blocks) (sizes_are t w.counted)))
 
   -- block by block
-  pub all_done : (P : List InstructionV → Type 0) → ((k : ℕ) → k < (get_or t.functions f null_function).blocks.count → P (rows_at (view t) f k)) → All (λ (b : BlockV). P b.rows) (function_at (view t) f).blocks
+  pub all_done : (P : List InstructionV → Type 0) → ((k : ℕ) → k < (get_or t.functions f null_function).blocks.count → P (rows_at (view t) f k)) → AllByRecursion (λ (b : BlockV). P b.rows) (function_at (view t) f).blocks
   all_done P h = all_blocks P (function_at (view t) f).blocks (λ k l. h k (omega (arith, blocks_counted)))
 
-  pub at_block : (P : List InstructionV → Type 0) → All (λ (b : BlockV). P b.rows) (function_at (view t) f).blocks → (k : ℕ) → k < (get_or t.functions f null_function).blocks.count → P (rows_at (view t) f k)
+  pub at_block : (P : List InstructionV → Type 0) → AllByRecursion (λ (b : BlockV). P b.rows) (function_at (view t) f).blocks → (k : ℕ) → k < (get_or t.functions f null_function).blocks.count → P (rows_at (view t) f k)
   at_block P h k l = each_block P (function_at (view t) f).blocks h k (omega (arith, blocks_counted))

@@ -1,6 +1,6 @@
 -- A store whose counts and form were checked is well formed.
 use Rattle.std.proofs.Common.{ℕ, ◌<◌, ◌≢◌, length, get_or}
-use Rattle.std.specs.List.{AllByRecursion as All}
+use Rattle.std.specs.List.{AllByRecursion}
 use Rattle.std.proofs.ByRecursion.{All-get_or, All-from_get_or, All-weaker}
 use Rattle.hir.specs.declared.rows.Counts.{Counts}
 use Rattle.hir.specs.declared.rows.BasicBlock.{BasicBlock}
@@ -17,8 +17,8 @@ block_fits c r f a b h =
       places = g.places.fits;
       instructions = g.instructions;
       preds = g.preds;
-      listed = All-get_or (λ (x : BasicBlock). All (λ n. n < c.instructions) (in_run r.numbers x.instructions)) r.blocks b null_block h a.listed;
-      named = All-get_or (λ (x : BasicBlock). All (λ n. n < c.blocks) (in_run r.numbers x.preds)) r.blocks b null_block h a.preds;
+      listed = All-get_or (λ (x : BasicBlock). AllByRecursion (λ n. n < c.instructions) (in_run r.numbers x.instructions)) r.blocks b null_block h a.listed;
+      named = All-get_or (λ (x : BasicBlock). AllByRecursion (λ n. n < c.blocks) (in_run r.numbers x.preds)) r.blocks b null_block h a.preds;
       once = All-get_or (λ (x : BasicBlock). Pairwise ◌≢◌ (in_run r.numbers x.instructions)) r.blocks b null_block h a.once;
       own = All-get_or (λ (x : BasicBlock). Clear x.instructions x.preds) r.blocks b null_block h a.own;
     }

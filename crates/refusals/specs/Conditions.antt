@@ -1,6 +1,6 @@
 -- The refusals: what a store, a function number and the mark bytes must meet, in the order in which it is tried.
 use Rattle.std.specs.Prelude.{◌≡◌, ℕ, ◌<◌, ◌≤◌, false, List, length, Some, None, Option, slice_index_or}
-use Rattle.std.specs.List.{AllByRecursion as All}
+use Rattle.std.specs.List.{AllByRecursion}
 use Rattle.rules.specs.Outline.{depth}
 use Rattle.laws.specs.Allowances.{Counts, walk_counts, identifiers_allowed, instructions_allowed, numbers_allowed, places_allowed, blocks_allowed, functions_allowed, text_allowed}
 use Rattle.hir.specs.Tables.{Tables}
@@ -20,7 +20,7 @@ pub record FunctionGiven (t : Tables) (f : ℕ) : Type 0 where
 -- A mark byte for each row of the identifier table, and all of them zero.
 pub record MarksReady (t : Tables) (marks : List ℕ) : Type 0 where
   pub enough : length t.identifiers ≤ length marks
-  pub clear : All (λ m. m ≡ 0) marks
+  pub clear : AllByRecursion (λ m. m ≡ 0) marks
 
 -- Each table has spare rows for what the walk counts, below its limit.
 pub record Spare (t : Tables) (counts : Counts) : Type 0 where

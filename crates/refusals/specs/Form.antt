@@ -1,6 +1,6 @@
 -- The form of a store: what is asked of each used row by itself, and of rows compared with one another.
 use Rattle.std.specs.Prelude.{◌≡◌, ℕ, ◌+◌, ◌-◌, ◌<◌, ◌≤◌, true, false, ◌≢◌, List, [], length, is_some, Option, slice_index_or}
-use Rattle.std.specs.List.{AllByRecursion as All}
+use Rattle.std.specs.List.{AllByRecursion}
 use Rattle.rules.specs.Kinds.{destructure_kind, jsx_kind, load_global_kind}
 use Rattle.hir.specs.declared.rows.Counts.{Counts}
 use Rattle.hir.specs.declared.rows.Name.{Name}
@@ -33,7 +33,7 @@ pub record PlaceAs (wanted : ℕ) (c : Counts) (p : Place) : Type 0 where
 -- a run of used places, all of this role
 pub record RunOf (wanted : ℕ) (c : Counts) (ps : List Place) (run : Run) : Type 0 where
   pub fits : RunFits run c.places
-  pub roles : All (λ (p : Place). p.role ≡ wanted) (in_run ps run)
+  pub roles : AllByRecursion (λ (p : Place). p.role ≡ wanted) (in_run ps run)
 
 -- the role of a place by its position
 abbrev pub role_at : List Place → ℕ → ℕ
@@ -111,19 +111,19 @@ pub record FunctionFormed (c : Counts) (ps : List Place) (f : HirFunction) : Typ
 pub record RowsFormed (c : Counts) (r : Rows) : Type 0 where
   pub counter : c.tag_counter ≤ tag_limit
   pub mark : c.tag_mark ≤ tag_limit
-  pub identifiers : All (IdentifierFits c) r.identifiers
-  pub places : All (PlaceFormed c) r.places
-  pub instructions : All (InstructionFormed c r.places) r.instructions
-  pub blocks : All (BlockFormed c r.places) r.blocks
-  pub functions : All (FunctionFormed c r.places) r.functions
+  pub identifiers : AllByRecursion (IdentifierFits c) r.identifiers
+  pub places : AllByRecursion (PlaceFormed c) r.places
+  pub instructions : AllByRecursion (InstructionFormed c r.places) r.instructions
+  pub blocks : AllByRecursion (BlockFormed c r.places) r.blocks
+  pub functions : AllByRecursion (FunctionFormed c r.places) r.functions
 
 -- Rows compared with one another: lists name used rows and predecessors used blocks; no row is listed twice; no two lists or predecessor
 -- runs share a list number, and no two functions a block.
 pub record RowsApart (c : Counts) (r : Rows) : Type 0 where
-  pub listed : All (λ (b : BasicBlock). All (λ n. n < c.instructions) (in_run r.numbers b.instructions)) r.blocks
-  pub preds : All (λ (b : BasicBlock). All (λ n. n < c.blocks) (in_run r.numbers b.preds)) r.blocks
-  pub once : All (λ (b : BasicBlock). Pairwise ◌≢◌ (in_run r.numbers b.instructions)) r.blocks
-  pub own : All (λ (b : BasicBlock). Clear b.instructions b.preds) r.blocks
+  pub listed : AllByRecursion (λ (b : BasicBlock). AllByRecursion (λ n. n < c.instructions) (in_run r.numbers b.instructions)) r.blocks
+  pub preds : AllByRecursion (λ (b : BasicBlock). AllByRecursion (λ n. n < c.blocks) (in_run r.numbers b.preds)) r.blocks
+  pub once : AllByRecursion (λ (b : BasicBlock). Pairwise ◌≢◌ (in_run r.numbers b.instructions)) r.blocks
+  pub own : AllByRecursion (λ (b : BasicBlock). Clear b.instructions b.preds) r.blocks
   pub blocks : Pairwise (BlocksApart r.numbers) r.blocks
   pub functions : Pairwise FunctionsApart r.functions
 

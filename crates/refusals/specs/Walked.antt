@@ -1,6 +1,6 @@
 -- What is asked of the functions on the walk, on what the tables say.
 use Rattle.std.specs.Prelude.{◌≡◌, ℕ, zero, suc, ◌+◌, ◌<◌, ◌≤◌, Bool, true, false, List, [], ◌∷◌, length, get_or, Some, None, Option, ◌==◌, slice_index_or}
-use Rattle.std.specs.List.{AllByRecursion as All}
+use Rattle.std.specs.List.{AllByRecursion}
 use Rattle.rules.specs.Lists.{select, gathered, within, Distinct}
 use Rattle.rules.specs.Kinds.{phi_kind}
 use Rattle.rules.specs.Views.{Bytes, PlaceV, InstructionV, BlockV, FunctionV, NameV, absent, named, promoted, IdentifierV, Hir, role_is, is_element, writes, function_at, function_rows}
@@ -15,7 +15,7 @@ OnWalk h f P = (g : ℕ) → within g (on_walk depth h f) ≡ true → P (functi
 -- no function lies deeper: of depth 1 a function has no inner functions
 abbrev pub NoDeeper : ℕ → Hir → ℕ → Type 0
 NoDeeper zero h f = ⊥
-NoDeeper (suc d) h f = All (NoDeeper d h) (inner_of (function_at h f).blocks)
+NoDeeper (suc d) h f = AllByRecursion (NoDeeper d h) (inner_of (function_at h f).blocks)
 
 -- Each function on the walk is reached once, is not an appended one, and lies no deeper than 32.
 pub record WalkSound (h : Hir) (f : ℕ) : Type 0 where
@@ -46,7 +46,7 @@ pub record RowsOrdered (is : List InstructionV) : Type 0 where
 
 -- so in each block
 abbrev pub FunctionOrdered : FunctionV → Type 0
-FunctionOrdered g = All (λ (b : BlockV). RowsOrdered b.rows) g.blocks
+FunctionOrdered g = AllByRecursion (λ (b : BlockV). RowsOrdered b.rows) g.blocks
 
 -- The listed rows of a function write no identifier twice, and none but a phi reads what its block writes at or after it.
 pub record WritesSound (g : FunctionV) : Type 0 where
@@ -69,8 +69,8 @@ ChildKeyless h p = role_is 4 p ≡ true → is_key (name_of h p.identifier) ≡ 
 
 -- an element has no child that is
 abbrev pub Keyless : Hir → InstructionV → Type 0
-Keyless h i = is_element i ≡ true → All (ChildKeyless h) i.places
+Keyless h i = is_element i ≡ true → AllByRecursion (ChildKeyless h) i.places
 
 -- so in each block
 abbrev pub FunctionKeyless : Hir → FunctionV → Type 0
-FunctionKeyless h g = All (λ (b : BlockV). All (Keyless h) b.rows) g.blocks
+FunctionKeyless h g = AllByRecursion (λ (b : BlockV). AllByRecursion (Keyless h) b.rows) g.blocks

@@ -1,5 +1,5 @@
 ghost use Rattle.std.specs.Prelude.{◌≡◌, ℕ, ◌+◌, ◌-◌, ◌^◌, ◌<◌, ◌≤◌, [], ◌∷◌, ◌++◌, length};
-ghost use Rattle.std.specs.List.{AllByRecursion as All};
+ghost use Rattle.std.specs.List.{AllByRecursion};
 ghost use Rattle.rules.specs.Views.{with_functions};
 ghost use Rattle.rules.specs.Props.{fresh};
 ghost use Rattle.hir.specs.Tables.{tables, with_function, with_identifier, with_instruction, with_numbers, with_places, Held};
@@ -32,7 +32,7 @@ fn write_places(store: &mut Store<'_>, places: &[Place]) -> Run
 pub fn append_places(store: &mut Store<'_>, places: &[Place]) -> Run
     requires well { WellFormed (tables store.old) }
     requires room { Room store.old.counts.places (length places.now) (length store.old.places.now) places_limit }
-    requires fits { All (PlaceFits store.old.counts) places.now }
+    requires fits { AllByRecursion (PlaceFits store.old.counts) places.now }
     ensures at { result ≡ record { first = store.old.counts.places; count = length places.now } }
     ensures does { Becomes store.old store.new (with_places (tables store.old) places.now) (view (tables store.old)) }
 {

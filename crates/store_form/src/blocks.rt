@@ -1,5 +1,5 @@
 ghost use Rattle.std.specs.Prelude.{◌≡◌, ℕ, ◌≤◌, length, MatchBool};
-ghost use Rattle.std.specs.List.{AllByRecursion as All};
+ghost use Rattle.std.specs.List.{AllByRecursion};
 ghost use Rattle.hir.specs.WellFormed.{RunFits};
 ghost use Rattle.hir.specs.declared.rows.Place.{Place};
 ghost use Rattle.refusals.specs.Form.{BlockFormed, FunctionFormed, RunOf};
@@ -10,7 +10,7 @@ use hir::{BasicBlock, Counts, HirFunction, Place, Run};
 // `places` has the used places.
 pub fn blocks_formed(rows: &[BasicBlock], places: &[Place], counts: Counts) -> bool
     requires { counts.places ≤ length places.now }
-    ensures { MatchBool result (All (BlockFormed counts places.now) rows.now) (All (BlockFormed counts places.now) rows.now → ⊥) }
+    ensures { MatchBool result (AllByRecursion (BlockFormed counts places.now) rows.now) (AllByRecursion (BlockFormed counts places.now) rows.now → ⊥) }
 {
     for row in rows {
         if !block_formed(*row, places, counts) {
@@ -36,7 +36,7 @@ fn block_formed(row: BasicBlock, places: &[Place], counts: Counts) -> bool
 // `places` has the used places.
 pub fn functions_formed(rows: &[HirFunction], places: &[Place], counts: Counts) -> bool
     requires { counts.places ≤ length places.now }
-    ensures { MatchBool result (All (FunctionFormed counts places.now) rows.now) (All (FunctionFormed counts places.now) rows.now → ⊥) }
+    ensures { MatchBool result (AllByRecursion (FunctionFormed counts places.now) rows.now) (AllByRecursion (FunctionFormed counts places.now) rows.now → ⊥) }
 {
     for row in rows {
         if !function_formed(*row, places, counts) {
@@ -83,7 +83,7 @@ fn all_of_role(run: Run, places: &[Place], counts: Counts, role: u8) -> bool
 }
 
 fn roles_are(places: &[Place], role: u8) -> bool
-    ensures { MatchBool result (All (λ (p : Place). p.role ≡ role) places.now) (All (λ (p : Place). p.role ≡ role) places.now → ⊥) }
+    ensures { MatchBool result (AllByRecursion (λ (p : Place). p.role ≡ role) places.now) (AllByRecursion (λ (p : Place). p.role ≡ role) places.now → ⊥) }
 {
     for place in places {
         if place.role != role {

@@ -1,5 +1,5 @@
 ghost use Rattle.std.specs.Prelude.{ℕ, ◌<◌, ◌≤◌, length, MatchBool};
-ghost use Rattle.std.specs.List.{AllByRecursion as All};
+ghost use Rattle.std.specs.List.{AllByRecursion};
 ghost use Rattle.refusals.specs.Form.{DestructureFormed, ElementFormed, InnerFormed, InstructionFormed, KindFormed, RoleFormed, TagGiven};
 
 use super::places::{name_if_fits, place_formed};
@@ -8,7 +8,7 @@ use hir::{Counts, Instruction, Name, Place};
 // `places` has the used places.
 pub fn instructions_formed(rows: &[Instruction], places: &[Place], counts: Counts) -> bool
     requires { counts.places ≤ length places.now }
-    ensures { MatchBool result (All (InstructionFormed counts places.now) rows.now) (All (InstructionFormed counts places.now) rows.now → ⊥) }
+    ensures { MatchBool result (AllByRecursion (InstructionFormed counts places.now) rows.now) (AllByRecursion (InstructionFormed counts places.now) rows.now → ⊥) }
 {
     for row in rows {
         if !instruction_formed(*row, places, counts) {

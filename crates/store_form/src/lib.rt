@@ -1,7 +1,6 @@
 //! Refusals 1 to 3, as far as each row can be looked at by itself: used counts, the function asked for, and the form of every used row.
 #![tactic(auto)]
 
-
 mod blocks;
 mod counts;
 mod instructions;

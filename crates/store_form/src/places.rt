@@ -1,5 +1,5 @@
 ghost use Rattle.std.specs.Prelude.{MatchBool};
-ghost use Rattle.std.specs.List.{AllByRecursion as All};
+ghost use Rattle.std.specs.List.{AllByRecursion};
 ghost use Rattle.hir.specs.WellFormed.{NameFits, NameIfFits, IdentifierFits};
 ghost use Rattle.refusals.specs.Form.{PlaceFormed};
 
@@ -43,7 +43,7 @@ pub fn place_formed(place: Place, counts: Counts) -> bool
 }
 
 pub fn identifiers_formed(rows: &[Identifier], counts: Counts) -> bool
-    ensures { MatchBool result (All (IdentifierFits counts) rows.now) (All (IdentifierFits counts) rows.now → ⊥) }
+    ensures { MatchBool result (AllByRecursion (IdentifierFits counts) rows.now) (AllByRecursion (IdentifierFits counts) rows.now → ⊥) }
 {
     for row in rows {
         if !identifier_formed(*row, counts) {
@@ -54,7 +54,7 @@ pub fn identifiers_formed(rows: &[Identifier], counts: Counts) -> bool
 }
 
 pub fn places_formed(rows: &[Place], counts: Counts) -> bool
-    ensures { MatchBool result (All (PlaceFormed counts) rows.now) (All (PlaceFormed counts) rows.now → ⊥) }
+    ensures { MatchBool result (AllByRecursion (PlaceFormed counts) rows.now) (AllByRecursion (PlaceFormed counts) rows.now → ⊥) }
 {
     for row in rows {
         if !place_formed(*row, counts) {

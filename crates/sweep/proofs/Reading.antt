@@ -2,7 +2,7 @@
 use Rattle.std.proofs.Common.{◌≡◌, ℕ, zero, suc, ◌+◌, ◌-◌, ◌<◌, ◌≤◌, Bool, true, false, eqb, leb, List, [], ◌∷◌, map, length, get_or, drop, sym, refl, ap, ◌∙◌, subst, inl, inr, arith, get_or-take}
 use lib.ListN.{length-map}
 use Rattle.std.proofs.lemmas.List.{at_drop_more, at_drop_all, get_or-map}
-use Rattle.std.specs.List.{AllByRecursion as All}
+use Rattle.std.specs.List.{AllByRecursion}
 use Rattle.std.proofs.ByRecursion.{All-get_or, All-weaker, All-take, All-drop}
 use Rattle.rules.specs.Lists.{any, select, within, Lists}
 use Rattle.rules.proofs.Membership.{In, in_cases, lists_none, lists_head, lists_split}
@@ -48,7 +48,7 @@ module _ (text : Bytes) where
   ]
 
 -- identifiers of places that all have a mark byte
-in_below : (n : ℕ) (test : Place → Bool) (ps : List Place) → All (λ (p : Place). p.identifier.0 < n) ps → (x : ℕ) → In x (ids (select test ps)) → x < n
+in_below : (n : ℕ) (test : Place → Bool) (ps : List Place) → AllByRecursion (λ (p : Place). p.identifier.0 < n) ps → (x : ℕ) → In x (ids (select test ps)) → x < n
 in_below n test [] a x h = absurd (both_ways false refl h)
 in_below n test (p ∷ ps) a x h =
     (elim (test p) as (λ b. In x (ids (elim b as (λ _. List Place) [ true ↦ p ∷ select test ps | false ↦ select test ps ])) → x < n) [
@@ -56,11 +56,11 @@ in_below n test (p ∷ ps) a x h =
       | false ↦ λ q. in_below n test ps a.1 x q
     ]) h
 
-all_ids_below : (n : ℕ) (ps : List Place) → All (λ (p : Place). p.identifier.0 < n) ps → (x : ℕ) → In x (ids ps) → x < n
+all_ids_below : (n : ℕ) (ps : List Place) → AllByRecursion (λ (p : Place). p.identifier.0 < n) ps → (x : ℕ) → In x (ids ps) → x < n
 all_ids_below n [] a x h = absurd (both_ways false refl h)
 all_ids_below n (p ∷ ps) a x h = elim (or_cases (eqb x p.identifier.0) (within x (ids ps)) h) [ inl e ↦ omega (arith, eqb-true x p.identifier.0 e, a.0) | inr m ↦ all_ids_below n ps a.1 x m ]
 
-all_lists : {A : Type 0} (P : A → Type 0) (xs : List A) (x : A) → All P xs → Lists xs x → P x
+all_lists : {A : Type 0} (P : A → Type 0) (xs : List A) (x : A) → AllByRecursion P xs → Lists xs x → P x
 all_lists P [] x a l = lists_none l
 all_lists P (y ∷ xs) x a l = elim (lists_head l) [ inl e ↦ subst P (sym e) a.0 | inr m ↦ all_lists P xs x a.1 m ]
 
@@ -97,7 +97,7 @@ module _ (t : Tables) (w : Readable t) (n : ℕ) (used : n < t.counts.instructio
   pub result_fits : (marks : List ℕ) → t.counts.identifiers ≤ length marks → row.result.identifier.0 < length marks
   result_fits marks wide = omega (arith, (row_fits t w n used).result.identifier)
 
-pub places_fit_marks : (marks : List ℕ) (c : Counts) → c.identifiers ≤ length marks → (ps : List Place) → All (PlaceFits c) ps → IdsFit marks ps
+pub places_fit_marks : (marks : List ℕ) (c : Counts) → c.identifiers ≤ length marks → (ps : List Place) → AllByRecursion (PlaceFits c) ps → IdsFit marks ps
 places_fit_marks marks c wide ps a = All-weaker (PlaceFits c) (λ (p : Place). p.identifier.0 < length marks) (λ p f. omega (arith, f.identifier)) ps a
 
 row_range : (t : Tables) (w : Readable t) (marks : List ℕ) → t.counts.identifiers ≤ length marks → (n : ℕ) → n < t.counts.instructions → InRange marks (reads (instruction_at (rows t) n))
@@ -152,7 +152,7 @@ module _ (t : Tables) (w : WellFormed t) where
   -- what blocks list and their terminals read, in any list of used blocks
   module _ (marks : List ℕ) (wide : t.counts.identifiers ≤ length marks) where
     abbrev Fit : List BasicBlock → Type 0
-    Fit bs = All (BlockFits t.counts (rows t).numbers) bs
+    Fit bs = AllByRecursion (BlockFits t.counts (rows t).numbers) bs
 
     rows_range : (bs : List BasicBlock) → Fit bs → (i : InstructionV) → Lists (rows_of (map (block_view (rows t)) bs)) i → InRange marks (reads i)
     rows_range [] a i l = lists_none l

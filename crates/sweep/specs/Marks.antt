@@ -1,6 +1,6 @@
 -- The mark bytes, by what they mark, and what each step of sweep makes of them. An identifier is needed if a terminal or a kept row reads it.
 use Rattle.std.specs.Prelude.{◌≡◌, ℕ, zero, suc, ◌+◌, ◌<◌, Bool, true, false, not, List, [], ◌∷◌, map, length, ◌==◌, nat_eq, nat_le, slice_index, slice_set}
-use Rattle.std.specs.List.{AllByRecursion as All}
+use Rattle.std.specs.List.{AllByRecursion}
 use Rattle.rules.specs.Lists.{any, select, Lists}
 use Rattle.rules.specs.Kinds.{acts}
 use Rattle.rules.specs.Views.{InstructionV, BlockV, acting, function_at, identifiers_of, reads, rows_of, writes}
@@ -46,7 +46,7 @@ ids_written ps = ids (select (λ (p : Place). nat_eq p.role 5) ps)
 
 -- there is a mark byte for each
 abbrev pub IdsFit : List ℕ → List Place → Type 0
-IdsFit marks ps = All (λ (p : Place). p.identifier.0 < length marks) ps
+IdsFit marks ps = AllByRecursion (λ (p : Place). p.identifier.0 < length marks) ps
 
 -- Rows.
 

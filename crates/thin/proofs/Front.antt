@@ -1,7 +1,7 @@
 -- Rows that stay, one row more: the tables while they are gathered, and what the whole gives.
 use Rattle.std.proofs.Common.{◌≡◌, ℕ, zero, suc, ◌+◌, ◌<◌, ◌≤◌, Bool, true, false, ◌≢◌, List, [], ◌∷◌, ◌++◌, map, length, get_or, take, drop, set, sym, refl, ap, ◌∙◌, subst, inl, inr, append-nil, arith, length-append, length-take-le, take_all}
 use lib.Seq.{paste, length-paste}
-use Rattle.std.specs.List.{AllByRecursion as All}
+use Rattle.std.specs.List.{AllByRecursion}
 use Rattle.std.proofs.lemmas.List.{get_or_default, take_more}
 use Rattle.std.proofs.ByRecursion.{All-get_or, All-from_get_or}
 use Rattle.rules.specs.Lists.{select}
@@ -35,12 +35,12 @@ module _ {A : Type 0} (p : A → Bool) where
   length_select [] = omega arith
   length_select (x ∷ xs) = shorter x xs (p x) (length_select xs)
 
-  pub all_select : (P : A → Type 0) (xs : List A) → All P xs → All P (select p xs)
+  pub all_select : (P : A → Type 0) (xs : List A) → AllByRecursion P xs → AllByRecursion P (select p xs)
   all_select P [] a = tt
-  all_select P (x ∷ xs) a = elim (p x) as (λ b. All P (elim b [ true ↦ x ∷ select p xs | false ↦ select p xs ])) [ true ↦ (a.0, all_select P xs a.1) | false ↦ all_select P xs a.1 ]
+  all_select P (x ∷ xs) a = elim (p x) as (λ b. AllByRecursion P (elim b [ true ↦ x ∷ select p xs | false ↦ select p xs ])) [ true ↦ (a.0, all_select P xs a.1) | false ↦ all_select P xs a.1 ]
 
 -- each element of ys is unlike x, by positions and one by one
-unlike_all : (xs ys : List ℕ) → Unlike xs ys → All (λ y. (k d : ℕ) → k < length xs → get_or xs k d ≢ y) ys
+unlike_all : (xs ys : List ℕ) → Unlike xs ys → AllByRecursion (λ y. (k d : ℕ) → k < length xs → get_or xs k d ≢ y) ys
 unlike_all xs ys u = All-from_get_or (λ y. (k d : ℕ) → k < length xs → get_or xs k d ≢ y) ys 0 (λ l h k d g. λ e. u k l 0 g h (get_or_default xs k 0 d g ∙ e))
 
 pub unlike_select : (p : ℕ → Bool) (ys xs : List ℕ) → Unlike ys xs → Unlike ys (select p xs)
@@ -50,10 +50,10 @@ unlike_select p ys xs u k l d h g = All-get_or (λ y. (k d : ℕ) → k < length
 rest_once : (x : ℕ) (xs : List ℕ) → Pairwise ◌≢◌ (x ∷ xs) → Pairwise ◌≢◌ xs
 rest_once x xs q i j d hi hj ne = q (suc i) (suc j) d (omega arith) (omega arith) (λ e. ne (omega arith))
 
-first_once : (x : ℕ) (xs : List ℕ) → Pairwise ◌≢◌ (x ∷ xs) → All (λ y. x ≢ y) xs
+first_once : (x : ℕ) (xs : List ℕ) → Pairwise ◌≢◌ (x ∷ xs) → AllByRecursion (λ y. x ≢ y) xs
 first_once x xs q = All-from_get_or (λ y. x ≢ y) xs 0 (λ i h. q 0 (suc i) 0 (omega arith) (omega arith) (λ e. omega arith))
 
-both_once : (x : ℕ) (xs : List ℕ) → All (λ y. x ≢ y) xs → Pairwise ◌≢◌ xs → Pairwise ◌≢◌ (x ∷ xs)
+both_once : (x : ℕ) (xs : List ℕ) → AllByRecursion (λ y. x ≢ y) xs → Pairwise ◌≢◌ xs → Pairwise ◌≢◌ (x ∷ xs)
 both_once x xs a q zero zero d hi hj ne = absurd (ne refl)
 both_once x xs a q zero (suc j) d hi hj ne = All-get_or (λ y. x ≢ y) xs j d (omega arith) a
 both_once x xs a q (suc i) zero d hi hj ne = λ e. All-get_or (λ y. x ≢ y) xs i d (omega arith) a (sym e)
@@ -91,7 +91,7 @@ module _ (test : InstructionV → Bool) (t : Tables) (first count i : ℕ) (fits
   row_listed : i < count → get_or list i 0 ≡ get_or t.numbers (first + i) 0
   row_listed h = getD_run (run_of first count) t.numbers i 0 h
 
-  pub row_used : (P : ℕ → Type 0) → All P list → i < count → P (get_or t.numbers (first + i) 0)
+  pub row_used : (P : ℕ → Type 0) → AllByRecursion P list → i < count → P (get_or t.numbers (first + i) 0)
   row_used P a h = subst P (row_listed h) (All-get_or P list i 0 (omega (arith, list_size)) a)
 
   more : i < count → kept_of test t (take (i + 1) list) ≡ so_far ++ kept_of test t (get_or t.numbers (first + i) 0 ∷ [])

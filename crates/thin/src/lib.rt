@@ -3,7 +3,7 @@
 
 ghost use Rattle.std.specs.Prelude.{◌≡◌, ℕ, ◌+◌, ◌<◌, ◌≤◌, Bool, length};
 ghost use Rattle.std.proofs.Math.Seq.{paste};
-ghost use Rattle.std.specs.List.{AllByRecursion as All};
+ghost use Rattle.std.specs.List.{AllByRecursion};
 ghost use Rattle.rules.specs.Lists.{select};
 ghost use Rattle.rules.specs.Views.{rows_at, with_list, InstructionV};
 ghost use Rattle.hir.specs.declared.rows.Counts.{Counts};
@@ -35,7 +35,7 @@ fn gather_kept<K: Keeps>(store: &mut Store<'_>, run: Run, keep: &K) -> u32
     requires readable { Readable (tables store.old) }
     requires fits { run.first + run.count ≤ length store.old.numbers.now }
     requires small { run.first + run.count ≤ 262144 }
-    requires listed { All (λ n. n < store.old.counts.instructions) (in_run store.old.numbers.now run) }
+    requires listed { AllByRecursion (λ n. n < store.old.counts.instructions) (in_run store.old.numbers.now run) }
     requires ready { K.Keeps.ready keep.now store.old.counts }
     ensures count { result ≡ length (kept_of (K.Keeps.test keep.now) (tables store.old) (in_run store.old.numbers.now run)) }
     ensures writes { tables store.new ≡ rewritten (tables store.old) run.first (kept_of (K.Keeps.test keep.now) (tables store.old) (in_run store.old.numbers.now run)) }

@@ -6,16 +6,16 @@ use Rattle.hir.specs.Tables.{tables}
 use Rattle.hir.specs.View.{instructions_at, rows}
 use Rattle.block_order.proofs.Counted.{count_more}
 use Rattle.block_order.proofs.elements_in.Goals as goal
-use Rattle.block_order.proofs.elements_in.Goals.{then-listed-row-eq16, else-listed-row-eq16}
+use Rattle.block_order.proofs.elements_in.Goals.{then-listed_row-eq16, else-listed_row-eq16}
 
 pub loop-k-preserved : goal.loop-k-preserved
 loop-k-preserved c =
     let r = rows (tables c.args.store.now) in
     let list = c.args.list.now in
     let all = length (select is_element (instructions_at r list)) in
-    elim c.if-listed-row-eq16.branch [
-      | then-listed-row-eq16 w ↦ (omega (arith, w.elements-is), count_more r list c.loop-k.k c.loop-k.elements _ all c.listed-row.result (omega arith) c.listed-row.ensures.seen c.loop-k.invariant.1 (inl (w.if-listed-row-eq16.true, w.elements-is)))
-      | else-listed-row-eq16 w ↦ (omega (arith, w.elements-is), count_more r list c.loop-k.k c.loop-k.elements _ all c.listed-row.result (omega arith) c.listed-row.ensures.seen c.loop-k.invariant.1 (inr (w.if-listed-row-eq16.false, w.elements-is)))
+    elim c.if-listed_row-eq16.branch [
+      | then-listed_row-eq16 w ↦ (omega (arith, w.elements-is), count_more r list c.loop-k.k c.loop-k.elements _ all c.listed-row.result (omega arith) c.listed-row.ensures.seen c.loop-k.invariant.1 (inl (w.if-listed_row-eq16.true, w.elements-is)))
+      | else-listed_row-eq16 w ↦ (omega (arith, w.elements-is), count_more r list c.loop-k.k c.loop-k.elements _ all c.listed-row.result (omega arith) c.listed-row.ensures.seen c.loop-k.invariant.1 (inr (w.if-listed_row-eq16.false, w.elements-is)))
     ]
 
 pub returns : goal.returns

@@ -1,5 +1,5 @@
 use Rattle.std.proofs.Common.{ℕ, ◌<◌, List, sym, ap, ◌∙◌, subst, arith, rules}
-use Rattle.std.specs.List.{AllByRecursion as All}
+use Rattle.std.specs.List.{AllByRecursion}
 use Rattle.hir.specs.Tables.{Tables, tables}
 use Rattle.hir.specs.View.{rows, instructions_at}
 use Rattle.hir.proofs.Listed.{block_used, block_fits_at}
@@ -30,5 +30,5 @@ returns c =
     record {
       numbers = e;
       seen = ap (instructions_at (rows t)) e ∙ sym (list_seen t c.requires.well f k c.requires.has);
-      listed = subst (All (λ n. n < t.counts.instructions)) (sym e) (list_listed t c.requires.well f k c.requires.has);
+      listed = subst (AllByRecursion (λ n. n < t.counts.instructions)) (sym e) (list_listed t c.requires.well f k c.requires.has);
     }

@@ -1,5 +1,5 @@
 use Rattle.std.proofs.Common.{◌≡◌, ℕ, ◌+◌, ◌<◌, Bool, List, length, get_or, sym, refl, ap, ◌∙◌, subst, arith, rules}
-use Rattle.std.specs.List.{AllByRecursion as All}
+use Rattle.std.specs.List.{AllByRecursion}
 use Rattle.rules.specs.Views.{InstructionV}
 use Rattle.hir.specs.declared.rows.Run.{Run}
 use Rattle.hir.specs.Used.{in_run}
@@ -31,7 +31,7 @@ gather_kept-count-requires g c =
       readable = readable t w;
       fits = omega (arith, o.instructions, w.counted.numbers.in_table);
       small = omega (arith, o.instructions, w.counted.numbers.in_limit);
-      listed = subst (All (λ n. n < t.counts.instructions)) (list_whole (g.K.Keeps.test c.args.keep.now) t w c.args.function.0 c.args.k c.requires.has) (list_listed t w c.args.function.0 c.args.k c.requires.has);
+      listed = subst (AllByRecursion (λ n. n < t.counts.instructions)) (list_whole (g.K.Keeps.test c.args.keep.now) t w c.args.function.0 c.args.k c.requires.has) (list_listed t w c.args.function.0 c.args.k c.requires.has);
       ready = c.requires.ready;
     }
 

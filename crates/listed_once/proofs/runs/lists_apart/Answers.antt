@@ -5,30 +5,30 @@ use Rattle.listed_once.specs.Marking.{Unmarked, list_or_preds}
 use Rattle.listed_once.proofs.Marks.{one_more, one_more_as, refused, marked_like, as_list, as_preds}
 use Rattle.listed_once.proofs.runs.lists_apart.Goals as goal
 
-pub returns-then-not-mark-run : goal.returns-then-not-mark-run
-returns-then-not-mark-run c =
+pub returns-then-not-mark_run : goal.returns-then-not-mark_run
+returns-then-not-mark_run c =
     let bs = c.args.blocks.now in
     let i = c.loop-i.i in
     let ms = c.loop-i.marks in
     refused (list_or_preds bs) i (length bs + length bs) ms
     (marked_like (λ b. (get_or bs b null_block).instructions) (list_or_preds bs) i ms (λ a h. as_list bs a (omega arith)) c.loop-i.invariant)
-    (λ u. c.if-not-mark-run.ensures (subst (λ (r : Run). Unmarked r ms) (sym (as_list bs i (omega arith))) u))
+    (λ u. c.if-not-mark_run.ensures (subst (λ (r : Run). Unmarked r ms) (sym (as_list bs i (omega arith))) u))
     (omega arith)
 
 pub loop-i-preserved : goal.loop-i-preserved
-loop-i-preserved c = one_more (λ b. (get_or c.args.blocks.now b null_block).instructions) c.loop-i.i c.loop-i.marks _ c.loop-i.invariant c.if-not-mark-run.ensures
+loop-i-preserved c = one_more (λ b. (get_or c.args.blocks.now b null_block).instructions) c.loop-i.i c.loop-i.marks _ c.loop-i.invariant c.if-not-mark_run.ensures
 
-pub returns-then-not-mark-run-2 : goal.returns-then-not-mark-run-2
-returns-then-not-mark-run-2 c =
+pub returns-then-not-mark_run-2 : goal.returns-then-not-mark_run-2
+returns-then-not-mark_run-2 c =
     let bs = c.args.blocks.now in
     let j = c.loop-j.j in
     let ms = c.loop-j.marks in
     refused (list_or_preds bs) (length bs + j) (length bs + length bs) ms c.loop-j.invariant
-    (λ u. c.if-not-mark-run-2.ensures (subst (λ (r : Run). Unmarked r ms) (sym (as_preds bs j)) u))
+    (λ u. c.if-not-mark_run-2.ensures (subst (λ (r : Run). Unmarked r ms) (sym (as_preds bs j)) u))
     (omega arith)
 
 pub loop-j-preserved : goal.loop-j-preserved
 loop-j-preserved c =
     let bs = c.args.blocks.now in
     let j = c.loop-j.j in
-    one_more_as (list_or_preds bs) (length bs + j) (length bs + (j + 1)) (get_or bs j null_block).preds c.loop-j.marks _ (as_preds bs j) (omega arith) c.loop-j.invariant c.if-not-mark-run-2.ensures
+    one_more_as (list_or_preds bs) (length bs + j) (length bs + (j + 1)) (get_or bs j null_block).preds c.loop-j.marks _ (as_preds bs j) (omega arith) c.loop-j.invariant c.if-not-mark_run-2.ensures

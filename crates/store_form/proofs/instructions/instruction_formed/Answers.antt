@@ -8,7 +8,7 @@ returns c =
     let first = c.args.row.places.first in
     let e : first + c.args.row.places.count - first ≡ c.args.row.places.count = omega arith in
     let F : ℕ → Type 0 = λ n. KindFormed c.args.row (take n (drop first c.args.places.now)) in
-    when_like c.kind-formed.result
-    (λ h. record { kind = c.if-row-gt42.false; result = record { role = omega arith; formed = c.if-not-place-formed.ensures }; name = c.if-not-name-if-fits.ensures; inner = c.if-not-inner-formed.ensures; places = c.if-end-counts.false; form = subst F e h })
+    when_like c.kind_formed.result
+    (λ h. record { kind = c.if-row-gt42.false; result = record { role = omega arith; formed = c.if-not-place_formed.ensures }; name = c.if-not-name_if_fits.ensures; inner = c.if-not-inner_formed.ensures; places = c.if-end-counts.false; form = subst F e h })
     (λ h. subst F (sym e) h.form)
-    c.kind-formed.ensures
+    c.kind_formed.ensures
