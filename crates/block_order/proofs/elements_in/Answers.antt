@@ -14,8 +14,8 @@ loop-k-preserved c =
     let list = c.args.list.now in
     let all = length (select is_element (instructions_at r list)) in
     elim c.if-listed_row-eq16.branch [
-      | then-listed_row-eq16 w ↦ (omega (arith, w.elements-is), count_more r list c.loop-k.k c.loop-k.elements _ all c.listed-row.result (omega arith) c.listed-row.ensures.seen c.loop-k.invariant.1 (inl (w.if-listed_row-eq16.true, w.elements-is)))
-      | else-listed_row-eq16 w ↦ (omega (arith, w.elements-is), count_more r list c.loop-k.k c.loop-k.elements _ all c.listed-row.result (omega arith) c.listed-row.ensures.seen c.loop-k.invariant.1 (inr (w.if-listed_row-eq16.false, w.elements-is)))
+      | then-listed_row-eq16 w ↦ (omega (arith, w.elements-is), count_more r list c.loop-k.k c.loop-k.elements _ all c.listed_row.result (omega arith) c.listed_row.ensures.seen c.loop-k.invariant.1 (inl (w.if-listed_row-eq16.true, w.elements-is)))
+      | else-listed_row-eq16 w ↦ (omega (arith, w.elements-is), count_more r list c.loop-k.k c.loop-k.elements _ all c.listed_row.result (omega arith) c.listed_row.ensures.seen c.loop-k.invariant.1 (inr (w.if-listed_row-eq16.false, w.elements-is)))
     ]
 
 pub returns : goal.returns

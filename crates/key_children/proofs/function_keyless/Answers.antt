@@ -6,10 +6,10 @@ use Rattle.refusals.specs.Walked.{Keyless}
 use Rattle.refusals.proofs.Blocks.{all_done, at_block}
 use Rattle.key_children.proofs.function_keyless.Goals as goal
 
-pub returns-then-not-list-keyless : goal.returns-then-not-list-keyless
-returns-then-not-list-keyless c =
+pub returns-then-not-list_keyless : goal.returns-then-not-list_keyless
+returns-then-not-list_keyless c =
     let t = tables c.args.store.now in
-    λ h. c.if-not-list-keyless.ensures (subst (AllByRecursion (Keyless (view t))) (sym c.block-list.ensures.seen) (at_block t c.requires.well c.args.function.0 c.requires.used (AllByRecursion (Keyless (view t))) h c.loop-k.k (omega arith)))
+    λ h. c.if-not-list_keyless.ensures (subst (AllByRecursion (Keyless (view t))) (sym c.block_list.ensures.seen) (at_block t c.requires.well c.args.function.0 c.requires.used (AllByRecursion (Keyless (view t))) h c.loop-k.k (omega arith)))
 
 pub returns : goal.returns
 returns c =

@@ -5,10 +5,10 @@ use Rattle.refusals.specs.Walked.{Keyless}
 use Rattle.refusals.proofs.Mapped.{all_mapped, mapped_at}
 use Rattle.key_children.proofs.list_keyless.Goals as goal
 
-pub returns-then-not-row-keyless : goal.returns-then-not-row-keyless
-returns-then-not-row-keyless c =
+pub returns-then-not-row_keyless : goal.returns-then-not-row_keyless
+returns-then-not-row_keyless c =
     let t = tables c.args.store.now in
-    λ h. c.if-not-row-keyless.ensures (mapped_at (Keyless (view t)) (instruction_at (rows t)) c.args.list.now 0 h c.loop-k.k (omega arith))
+    λ h. c.if-not-row_keyless.ensures (mapped_at (Keyless (view t)) (instruction_at (rows t)) c.args.list.now 0 h c.loop-k.k (omega arith))
 
 pub returns : goal.returns
 returns c =

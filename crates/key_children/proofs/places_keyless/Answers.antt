@@ -8,14 +8,14 @@ use Rattle.refusals.specs.Walked.{ChildKeyless}
 use Rattle.refusals.proofs.Mapped.{all_mapped, mapped_at}
 use Rattle.key_children.proofs.places_keyless.Goals as goal
 
-pub named-key-requires : goal.named-key-requires
-named-key-requires c = record { well = c.requires.well; used = (All-get_or (PlaceFits c.args.store.now.counts) c.args.places.now c.loop-i.i null_place (omega arith) c.requires.fit).identifier }
+pub named_key-requires : goal.named_key-requires
+named_key-requires c = record { well = c.requires.well; used = (All-get_or (PlaceFits c.args.store.now.counts) c.args.places.now c.loop-i.i null_place (omega arith) c.requires.fit).identifier }
 
-pub returns-then-named-key : goal.returns-then-named-key
-returns-then-named-key c =
+pub returns-then-named_key : goal.returns-then-named_key
+returns-then-named_key c =
     let t = tables c.args.store.now in
     λ h. let k = mapped_at (ChildKeyless (view t)) (place_view (view t).text) c.args.places.now null_place h c.loop-i.i (omega arith) (eq-eqb _ _ c.if-places-i-eq4.true) in
-    both_ways c.named-key.result (c.named-key.ensures ∙ k) c.if-named-key.true
+    both_ways c.named_key.result (c.named_key.ensures ∙ k) c.if-named_key.true
 
 pub returns : goal.returns
 returns c =

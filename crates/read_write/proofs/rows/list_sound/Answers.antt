@@ -12,13 +12,13 @@ loop-j-init c =
     let list = c.args.list.now in
     (omega arith, subst (λ is. RowsDone c.args.base c.args.turn is c.args.marks.now c.args.marks.now) (sym (at_drop_all (instructions_at r) list (length list) (omega arith))) (no_rows c.args.base c.args.turn c.args.marks.now))
 
-pub returns-then-not-row-sound : goal.returns-then-not-row-sound
-returns-then-not-row-sound c =
+pub returns-then-not-row_sound : goal.returns-then-not-row_sound
+returns-then-not-row_sound c =
     let r = rows (tables c.args.store.now) in
     let list = c.args.list.now in
     let j = c.loop-j.j in
     let l : j ≤ length list = c.loop-j.invariant.0 in
-    λ s. row_refused c.args.base c.args.turn (instruction_at r (get_or list (j - 1) 0)) (instructions_at r (take (j - 1) list)) (instructions_at r (drop j list)) c.args.marks.now c.loop-j.marks c.requires.above.1 c.loop-j.invariant.1 c.if-not-row-sound.ensures
+    λ s. row_refused c.args.base c.args.turn (instruction_at r (get_or list (j - 1) 0)) (instructions_at r (take (j - 1) list)) (instructions_at r (drop j list)) c.args.marks.now c.loop-j.marks c.requires.above.1 c.loop-j.invariant.1 c.if-not-row_sound.ensures
     (subst (λ is. RowsSound c.args.base is c.args.marks.now) (rows_split r list j (omega arith) l) s)
 
 pub loop-j-preserved : goal.loop-j-preserved
@@ -28,6 +28,6 @@ loop-j-preserved c =
     let j = c.loop-j.j in
     let l : j ≤ length list = c.loop-j.invariant.0 in (
       omega arith,
-      subst (λ is. RowsDone c.args.base c.args.turn is c.args.marks.now c.row-sound.new.marks) (sym (row_and_rest r list j (omega arith) l))
-          (row_more c.args.base c.args.turn (instruction_at r (get_or list (j - 1) 0)) (instructions_at r (drop j list)) c.args.marks.now c.loop-j.marks c.row-sound.new.marks c.requires.above.0 c.loop-j.invariant.1 c.if-not-row-sound.ensures),
+      subst (λ is. RowsDone c.args.base c.args.turn is c.args.marks.now c.row_sound.new.marks) (sym (row_and_rest r list j (omega arith) l))
+          (row_more c.args.base c.args.turn (instruction_at r (get_or list (j - 1) 0)) (instructions_at r (drop j list)) c.args.marks.now c.loop-j.marks c.row_sound.new.marks c.requires.above.0 c.loop-j.invariant.1 c.if-not-row_sound.ensures),
     )
