@@ -1,5 +1,5 @@
 -- What a call shows of a store from the tables that it leaves; and what was seen before a call is seen after it.
-use Rattle.std.proofs.Common.{◌≡◌, ℕ, ◌<◌, List, map, length, sym, refl, ap, ◌∙◌, subst, arith}
+use Rattle.std.proofs.Common.{◌≡◌, ℕ, ◌<◌, List, sym, ap, ◌∙◌, subst}
 use Rattle.std.specs.List.{AllByRecursion}
 use Rattle.rules.specs.Views.{Hir}
 use Rattle.hir.specs.declared.rows.Store.{Store}
@@ -11,7 +11,7 @@ use Rattle.hir.specs.WellFormed.{NameFits, WellFormed}
 use Rattle.hir.specs.Frame.{Kept, Becomes}
 use Rattle.hir.proofs.Same.{spelt_same, instruction_at_same, instructions_at_same}
 use Rattle.hir.proofs.Growth.{sizes_are, sound_rows}
-use Rattle.hir.proofs.Frames.{kept_stays, kept_then, held_then}
+use Rattle.hir.proofs.Frames.{kept_stays}
 
 pub becomes : (before after : Store) (t : Tables) (h : Hir) → tables after ≡ t → Held after before → view t ≡ h → WellFormed t → Kept (tables before) t → Becomes before after t h
 becomes before after t h e held seen well kept = record {

@@ -1,8 +1,7 @@
 -- The frame of each kind of write, of one write after another, and what it gives.
-use Rattle.std.proofs.Common.{◌≡◌, ℕ, zero, suc, ◌+◌, ◌-◌, ◌<◌, ◌≤◌, min, List, [], ◌∷◌, ◌++◌, map, length, get_or, take, drop, set, sym, refl, ap, ◌∙◌, arith, length-append, length-set, take-append-drop, length-take, length-take-le, take-take, take_at, drop-set-lt}
-use lib.Seq.{paste, length-paste, take-set-le, take-set-lt, drop-paste, take-append-le, take-length}
+use Rattle.std.proofs.Common.{◌≡◌, ℕ, ◌+◌, ◌<◌, ◌≤◌, min, List, [], ◌∷◌, ◌++◌, map, length, get_or, take, drop, set, sym, refl, ap, ◌∙◌, arith, length-append, length-set, take-append-drop, length-take, length-take-le, take-take, take_at, drop-set-lt}
+use lib.Seq.{paste, length-paste, take-set-le, take-set-lt, drop-paste, take-append-le}
 use Rattle.std.proofs.lemmas.List.{take-map, map-set, set-get_or, get_or-map, get_or-take, map-id}
-use Rattle.std.specs.List.{AllByRecursion}
 use Rattle.hir.specs.declared.rows.Store.{Store}
 use Rattle.hir.specs.declared.rows.Identifier.{Identifier}
 use Rattle.hir.specs.declared.rows.Place.{Place}
@@ -10,7 +9,7 @@ use Rattle.hir.specs.declared.rows.Instruction.{Instruction}
 use Rattle.hir.specs.declared.rows.BasicBlock.{BasicBlock}
 use Rattle.hir.specs.declared.rows.HirFunction.{HirFunction}
 use Rattle.hir.specs.Tables.{Tables, Held, hold_numbers, with_identifier, with_instruction, with_block, with_function, with_text, with_places, with_numbers, with_tag, over_identifier, over_block}
-use Rattle.hir.specs.View.{Rows, rows, null_identifier, null_block}
+use Rattle.hir.specs.View.{rows, null_identifier, null_block}
 use Rattle.hir.specs.Frame.{Onward, AllOnward, Kept, onwards, whole, declaration_of, without_list, nothing_of}
 use Rattle.hir.proofs.Runs.{drop_less}
 use Rattle.hir.proofs.Same.{Prefix, Stays}

@@ -1,9 +1,8 @@
 -- Appended rows: what fitted fits still, and a sound store stays sound.
-use Rattle.std.proofs.Common.{◌≡◌, ℕ, ◌+◌, ◌<◌, ◌≤◌, ◌≢◌, ◌⊎◌, List, [], ◌∷◌, ◌++◌, map, length, get_or, take, Some, None, Option, sym, refl, ap, ◌∙◌, subst, inl, inr, arith, length-take-le}
+use Rattle.std.proofs.Common.{◌≡◌, ℕ, ◌<◌, ◌≤◌, ◌≢◌, List, length, Some, None, Option, sym, refl, subst, arith, length-take-le}
 use Rattle.std.specs.List.{AllByRecursion}
 use Rattle.std.proofs.ByRecursion.{All-weaker, All-append}
 use Rattle.hir.specs.declared.rows.Name.{Name}
-use Rattle.hir.specs.declared.rows.Run.{Run}
 use Rattle.hir.specs.declared.rows.Counts.{Counts}
 use Rattle.hir.specs.declared.rows.IdentifierName.{IdentifierName}
 use Rattle.hir.specs.declared.rows.IdentifierName.TheVariants.{Absent, Named, Promoted}

@@ -1,13 +1,12 @@
 -- The view after each append, and that the store stays well formed.
-use Rattle.std.proofs.Common.{◌≡◌, ℕ, ◌+◌, ◌<◌, ◌≤◌, Bool, true, false, ◌||◌, ◌≢◌, ◌⊎◌, List, [], ◌∷◌, ◌++◌, map, length, get_or, take, sym, refl, ap, ◌∙◌, subst, inl, inr, append-nil, add-zero, arith, length-append, length-set, length-take-le}
-use lib.Seq.{paste, length-paste}
+use Rattle.std.proofs.Common.{◌≡◌, ℕ, ◌+◌, Bool, true, false, ◌||◌, List, [], ◌∷◌, ◌++◌, length, get_or, sym, refl, ap, ◌∙◌, subst, append-nil, add-zero, arith, length-set}
+use lib.Seq.{length-paste}
 use Rattle.std.specs.List.{AllByRecursion}
 use Rattle.std.proofs.lemmas.List.{take_more_set, length-map}
 use Rattle.std.proofs.ByRecursion.{All-get_or, All-weaker}
 use Rattle.rules.specs.Lists.{any}
-use Rattle.rules.specs.Views.{Bytes, NameV, IdentifierV, InstructionV, FunctionV, Hir, with_identifiers, with_functions, write}
+use Rattle.rules.specs.Views.{Bytes, IdentifierV, InstructionV, FunctionV, Hir, with_identifiers, with_functions, write}
 use Rattle.rules.specs.Props.{fresh}
-use Rattle.hir.specs.declared.rows.Run.{Run}
 use Rattle.hir.specs.declared.rows.Counts.{Counts}
 use Rattle.hir.specs.declared.rows.IdentifierName.{IdentifierName}
 use Rattle.hir.specs.declared.rows.Identifier.{Identifier}
@@ -15,14 +14,13 @@ use Rattle.hir.specs.declared.rows.Place.{Place}
 use Rattle.hir.specs.declared.rows.Instruction.{Instruction}
 use Rattle.hir.specs.declared.rows.BasicBlock.{BasicBlock}
 use Rattle.hir.specs.declared.rows.HirFunction.{HirFunction}
-use Rattle.hir.specs.Used.{in_run}
 use Rattle.hir.specs.Tables.{Tables, with_identifier, with_instruction, with_block, with_function, with_text, with_places, with_numbers, with_tag}
 use Rattle.hir.specs.View.{Rows, rows, sizes, put_text, put_identifiers, put_places, put_instructions, put_numbers, put_blocks, put_functions, name_view, identifier_view, instruction_view, function_view, bears_name, seen, view, with_row_taken}
-use Rattle.hir.specs.WellFormed.{Room, text_limit, identifiers_limit, places_limit, instructions_limit, numbers_limit, blocks_limit, functions_limit, IdentifierNameFits, IdentifierFits, PlaceFits, InstructionFits, BlockFits, FunctionFits, BlocksApart, FunctionsApart, Pairwise, Sound, Counted, WellFormed}
+use Rattle.hir.specs.WellFormed.{Room, text_limit, identifiers_limit, places_limit, instructions_limit, numbers_limit, blocks_limit, functions_limit, IdentifierFits, PlaceFits, InstructionFits, BlockFits, FunctionFits, BlocksApart, FunctionsApart, Sound, Counted, WellFormed}
 use Rattle.hir.specs.Lists.{FunctionFitsIn}
 use Rattle.hir.proofs.Runs.{take_written, clear_other_way}
 use Rattle.hir.proofs.Pairs.{pairwise_push}
-use Rattle.hir.proofs.Same.{Prefix, prefix_same, Extends, view_grown}
+use Rattle.hir.proofs.Same.{prefix_same, Extends, view_grown}
 use Rattle.hir.proofs.Growth.{More, extends_more, identifier_grows, place_grows, instruction_grows, block_grows, function_grows, apart_other_way, blocks_apart_still, sound_grown, sizes_are, sound_rows, sound_tables}
 
 -- A view with nothing appended to some of its lists.

@@ -1,5 +1,5 @@
 -- The tables after a block is appended with its list, given a new list, or its list made shorter.
-use Rattle.std.proofs.Common.{◌≡◌, ℕ, ◌+◌, ◌<◌, ◌≤◌, ◌≢◌, ◌⊎◌, List, [], ◌∷◌, ◌++◌, map, length, get_or, take, set, sym, refl, ap, ◌∙◌, subst, inl, inr, arith, length-append, length-set, length-take-le, get_or-take}
+use Rattle.std.proofs.Common.{◌≡◌, ℕ, ◌+◌, ◌<◌, ◌≤◌, ◌≢◌, List, ◌++◌, length, get_or, take, set, sym, refl, ap, ◌∙◌, subst, inl, inr, arith, length-set, length-take-le, get_or-take}
 use lib.Seq.{paste, length-paste, take-set-lt}
 use Rattle.std.specs.List.{AllByRecursion}
 use Rattle.std.proofs.ByRecursion.{All-get_or, All-from_get_or}
@@ -10,14 +10,14 @@ use Rattle.hir.specs.declared.rows.Counts.{Counts}
 use Rattle.hir.specs.declared.rows.BasicBlock.{BasicBlock}
 use Rattle.hir.specs.declared.rows.HirFunction.{HirFunction}
 use Rattle.hir.specs.Used.{in_run}
-use Rattle.hir.specs.Tables.{Tables, hold_numbers, with_numbers, with_block, over_block}
-use Rattle.hir.specs.View.{Rows, rows, sizes, put_numbers, put_blocks, null_run, null_block, null_function, instructions_at, seen, view}
-use Rattle.hir.specs.WellFormed.{Room, numbers_limit, blocks_limit, RunFits, Clear, Pairwise, Unlike, BlockFits, FunctionFits, BlocksApart, FunctionsApart, Sound, Counted, WellFormed}
+use Rattle.hir.specs.Tables.{Tables, hold_numbers, with_numbers, over_block}
+use Rattle.hir.specs.View.{Rows, rows, put_numbers, put_blocks, null_run, null_block, null_function, instructions_at, seen, view}
+use Rattle.hir.specs.WellFormed.{Room, numbers_limit, blocks_limit, RunFits, Clear, Pairwise, Unlike, BlockFits, FunctionFits, BlocksApart, Sound, Counted, WellFormed}
 use Rattle.hir.specs.Lists.{listing_run, next_run, with_listed_block, ListFits, BlockFitsIn, block_number, block_of, with_new_list, HasBlock, UnlistedBut, thinned_run, with_thinned_list}
-use Rattle.hir.specs.Frame.{Kept, onwards, without_list}
+use Rattle.hir.specs.Frame.{Kept}
 use Rattle.hir.proofs.Runs.{run_last, run_more, run_used, run_clear, run_written, clear_past, clear_shorter, clear_other_way}
 use Rattle.hir.proofs.Frames.{kept_then, kept_numbers, kept_block, kept_over_block, kept_rewritten}
-use Rattle.hir.proofs.Growth.{More, sizes_are, sound_tables, sound_rows}
+use Rattle.hir.proofs.Growth.{More, sizes_are}
 use Rattle.hir.proofs.Laws.{rows_numbers, view_numbers, well_numbers, view_block, well_block}
 use Rattle.hir.proofs.Relisting.{relisted, relisted_seen, relisted_sound}
 

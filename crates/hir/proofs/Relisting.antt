@@ -1,20 +1,19 @@
 -- A block is given another list, and the list table changes with it: what the view becomes, and that the store stays sound.
-use Rattle.std.proofs.Common.{◌≡◌, ℕ, zero, suc, ◌+◌, ◌<◌, ◌≤◌, ◌≢◌, ◌⊎◌, List, [], ◌∷◌, ◌++◌, map, length, get_or, set, sym, refl, ap, ◌∙◌, subst, inl, inr, arith, length-set}
+use Rattle.std.proofs.Common.{◌≡◌, ℕ, zero, suc, ◌+◌, ◌<◌, ◌≢◌, List, [], ◌∷◌, map, length, get_or, set, sym, refl, ap, ◌∙◌, subst, arith}
 use Rattle.std.specs.List.{AllByRecursion}
 use Rattle.std.proofs.ByRecursion.{All-get_or, All-weaker}
 use Rattle.rules.specs.Lists.{changed}
-use Rattle.rules.specs.Views.{InstructionV, BlockV, FunctionV, Hir, with_rows, with_blocks, with_list}
+use Rattle.rules.specs.Views.{InstructionV, with_rows, with_blocks, with_list}
 use Rattle.hir.specs.declared.rows.Run.{Run}
 use Rattle.hir.specs.declared.rows.Counts.{Counts}
 use Rattle.hir.specs.declared.rows.BasicBlock.{BasicBlock}
-use Rattle.hir.specs.declared.rows.HirFunction.{HirFunction}
 use Rattle.hir.specs.Used.{in_run}
 use Rattle.hir.specs.View.{Rows, put_numbers, put_blocks, null_block, null_function, places_view, instructions_at, block_view, function_view, seen}
 use Rattle.hir.specs.WellFormed.{RunFits, Clear, Pairwise, Unlike, IdentifierFits, PlaceFits, InstructionFits, BlockFits, FunctionFits, BlocksApart, FunctionsApart, Sound}
 use Rattle.hir.specs.Lists.{listing_run}
-use Rattle.hir.proofs.Runs.{run_set_clear, run_set_inside, getD_run, covers, covered, clear_unlike, clear_other_way}
+use Rattle.hir.proofs.Runs.{run_set_clear, run_set_inside, getD_run, covers, covered, clear_unlike}
 use Rattle.hir.proofs.Pairs.{pairwise_set, all_but_set}
-use Rattle.hir.proofs.Growth.{More, identifier_grows, place_grows, instruction_grows, function_grows, unlike_other_way, apart_other_way}
+use Rattle.hir.proofs.Growth.{More, identifier_grows, place_grows, instruction_grows, function_grows, apart_other_way}
 
 -- maps that agree but at one position
 map_all_same : {A B : Type 0} (f g : A → B) (xs : List A) (d : A) → ((j : ℕ) → j < length xs → g (get_or xs j d) ≡ f (get_or xs j d)) → map g xs ≡ map f xs

@@ -1,11 +1,10 @@
 -- An identifier's row written over.
-use Rattle.std.proofs.Common.{◌≡◌, ℕ, zero, suc, ◌+◌, ◌<◌, ◌≤◌, List, [], ◌∷◌, ◌++◌, map, length, get_or, take, set, sym, refl, ap, ◌∙◌, subst, arith, length-set, get_or-take}
+use Rattle.std.proofs.Common.{◌≡◌, ℕ, zero, suc, ◌<◌, List, [], ◌∷◌, map, length, get_or, set, sym, refl, ap, ◌∙◌, subst, arith, length-set, get_or-take}
 use lib.Seq.{take-set-lt}
-use Rattle.std.specs.List.{AllByRecursion}
 use Rattle.std.proofs.ByRecursion.{All-set}
 use Rattle.std.proofs.lemmas.List.{get_or-map, length-map, map-set}
 use Rattle.rules.specs.Lists.{changed}
-use Rattle.rules.specs.Views.{IdentifierV, Hir, with_identifiers}
+use Rattle.rules.specs.Views.{IdentifierV, with_identifiers}
 use Rattle.hir.specs.declared.rows.Counts.{Counts}
 use Rattle.hir.specs.declared.rows.Identifier.{Identifier}
 use Rattle.hir.specs.Tables.{Tables, over_identifier}

@@ -1,6 +1,6 @@
 -- What a run covers: in a longer list, after a write beside it, after a write in it.
-use Rattle.std.proofs.Common.{◌≡◌, ℕ, ◌+◌, ◌-◌, ◌<◌, ◌≤◌, min, ◌≢◌, ◌⊎◌, List, [], ◌∷◌, ◌++◌, length, get_or, take, drop, set, sym, refl, ap, ◌∙◌, inl, inr, append_assoc, append-nil, add-one, arith, length-append, length-drop, take-append-drop, length-take, length-take-le, get_or-take, drop-drop, take_at, drop-set-lt, drop_at}
-use lib.Seq.{take-append-le, drop-append-le, take-set-lt, take-set-le, drop-set-add, take-length, paste, paste-zero, length-paste, drop-paste, take-paste}
+use Rattle.std.proofs.Common.{◌≡◌, ℕ, ◌+◌, ◌-◌, ◌<◌, ◌≤◌, ◌≢◌, ◌⊎◌, List, [], ◌∷◌, ◌++◌, length, get_or, take, drop, set, sym, refl, ap, ◌∙◌, inl, inr, append-nil, add-one, arith, length-append, length-drop, take-append-drop, length-take, length-take-le, get_or-take, drop-drop, take_at, drop-set-lt, drop_at}
+use lib.Seq.{take-append-le, drop-append-le, take-set-lt, take-set-le, drop-set-add, take-length, paste, paste-zero, drop-paste, take-paste}
 use Rattle.std.proofs.lemmas.List.{get_or_append_left, get_or-drop, set_split}
 use Rattle.std.proofs.lemmas.List.Edits.{paste_all, paste-paste}
 use Rattle.hir.specs.declared.rows.Run.{Run}

@@ -1,12 +1,12 @@
 -- Used rows that stand are seen the same when rows are appended.
-use Rattle.std.proofs.Common.{◌≡◌, ℕ, ◌+◌, ◌<◌, ◌≤◌, Bool, true, false, ◌&&◌, ◌||◌, eqb, List, [], ◌∷◌, ◌++◌, map, length, get_or, take, drop, Some, None, Option, sym, refl, ap, ◌∙◌, subst, append_assoc, append-nil, arith, length-append}
+use Rattle.std.proofs.Common.{◌≡◌, ℕ, ◌+◌, ◌<◌, ◌≤◌, Bool, true, false, ◌&&◌, ◌||◌, eqb, List, [], ◌∷◌, ◌++◌, map, length, get_or, drop, Some, None, Option, sym, refl, ap, ◌∙◌, append-nil, arith, length-append}
 use mathlib.Core.List.{map-append}
 use Rattle.std.specs.List.{AllByRecursion}
 use Rattle.std.proofs.lemmas.List.{get_or_append_left}
 use Rattle.std.proofs.ByRecursion.{All-get_or, All-take, All-drop}
 use Rattle.rules.specs.Lists.{any}
 use Rattle.rules.specs.Kinds.{load_global_kind, store_global_kind}
-use Rattle.rules.specs.Views.{Bytes, PlaceV, InstructionV, BlockV, FunctionV, IdentifierV, NameV, Hir}
+use Rattle.rules.specs.Views.{Bytes, NameV, Hir}
 use Rattle.rules.specs.Names.{same_name}
 use Rattle.hir.specs.declared.rows.Name.{Name}
 use Rattle.hir.specs.declared.rows.Run.{Run}

@@ -2,22 +2,20 @@
 use Rattle.std.proofs.Common.{◌≡◌, ℕ, zero, suc, ◌+◌, ◌-◌, ◌<◌, ◌≤◌, List, [], ◌∷◌, map, length, get_or, take, drop, sym, refl, ap, ◌∙◌, subst, arith, length-take-le, get_or-take}
 use Rattle.std.specs.List.{AllByRecursion}
 use Rattle.std.proofs.ByRecursion.{All-get_or, All-take, All-drop}
-use Rattle.std.proofs.lemmas.List.{get_or-map, length-map}
-use Rattle.rules.specs.Views.{InstructionV, BlockV, FunctionV, Hir, no_function, function_at, block_rows, rows_at}
+use Rattle.std.proofs.lemmas.List.{get_or-map}
+use Rattle.rules.specs.Views.{InstructionV, FunctionV, no_function, function_at, block_rows, rows_at}
 use Rattle.hir.specs.declared.rows.Run.{Run}
 use Rattle.hir.specs.declared.rows.Counts.{Counts}
-use Rattle.hir.specs.declared.rows.Place.{Place}
 use Rattle.hir.specs.declared.rows.Instruction.{Instruction}
 use Rattle.hir.specs.declared.rows.BasicBlock.{BasicBlock}
-use Rattle.hir.specs.declared.rows.HirFunction.{HirFunction}
 use Rattle.hir.specs.Used.{in_run}
 use Rattle.hir.specs.Tables.{Tables}
-use Rattle.hir.specs.View.{Rows, rows, null_instruction, null_block, null_function, place_view, places_view, instruction_view, instruction_at, instructions_at, block_view, function_view, view}
-use Rattle.hir.specs.WellFormed.{RunFits, PlaceFits, InstructionFits, BlockFits, FunctionFits, Counted, Readable, WellFormed}
+use Rattle.hir.specs.View.{Rows, rows, null_instruction, null_block, null_function, place_view, instruction_view, instruction_at, instructions_at, block_view, function_view, view}
+use Rattle.hir.specs.WellFormed.{RunFits, PlaceFits, InstructionFits, Readable, WellFormed}
 use Rattle.hir.specs.Lists.{block_number, block_of, HasBlock}
-use Rattle.hir.proofs.Runs.{run_of, run_used, getD_run, covered}
+use Rattle.hir.proofs.Runs.{run_used, getD_run, covered}
 use Rattle.hir.proofs.Growth.{sizes_are}
-use Rattle.hir.proofs.Listed.{block_used, block_is, block_fits_at, numbers_sized}
+use Rattle.hir.proofs.Listed.{block_used, block_is, block_fits_at}
 
 pub readable : (t : Tables) → WellFormed t → Readable t
 readable t w = record { counted = w.counted; places = w.sound.places; instructions = w.sound.instructions }

@@ -1,6 +1,6 @@
 -- Lists of blocks: a block appended with its list, a new list for a block, and a list made shorter in its own place. What new rows must
 -- have so that a store stays well formed.
-use Rattle.std.specs.Prelude.{◌≡◌, ℕ, ◌+◌, ◌<◌, ◌≤◌, ◌≢◌, List, length, get_or, slice_index_or}
+use Rattle.std.specs.Prelude.{◌≡◌, ℕ, ◌+◌, ◌<◌, ◌≢◌, List, length, get_or, slice_index_or}
 use Rattle.std.proofs.Math.Seq.{paste}
 use Rattle.std.specs.List.{AllByRecursion}
 use Rattle.hir.specs.declared.rows.Run.{Run}

@@ -1,5 +1,5 @@
 -- What a store holds, as plain lists and counts, and what each write makes of it.
-use Rattle.std.specs.Prelude.{◌≡◌, ℕ, suc, ◌+◌, List, [], ◌∷◌, length, slice_set}
+use Rattle.std.specs.Prelude.{◌≡◌, ℕ, ◌+◌, List, length, slice_set}
 use Rattle.std.proofs.Math.Seq.{paste}
 use Rattle.hir.specs.declared.rows.Store.{Store}
 use Rattle.hir.specs.declared.rows.Counts.{Counts}

@@ -1,5 +1,5 @@
 -- The used rows of a store, and what they say once every number is followed and every name is spelt out.
-use Rattle.std.specs.Prelude.{ℕ, ◌+◌, Bool, true, false, ◌&&◌, ◌||◌, List, [], ◌∷◌, ◌++◌, map, length, take, Some, None, Option, ◌==◌, slice_index_or}
+use Rattle.std.specs.Prelude.{ℕ, ◌+◌, Bool, false, ◌&&◌, ◌||◌, List, map, length, take, Some, None, Option, ◌==◌, slice_index_or}
 use Rattle.rules.specs.Lists.{any}
 use Rattle.rules.specs.Kinds.{load_global_kind, store_global_kind}
 use Rattle.rules.specs.Views.{Bytes, PlaceV, InstructionV, BlockV, FunctionV, NameV, absent, named, promoted, IdentifierV, Hir}

@@ -1,5 +1,5 @@
 -- What an outline leaves as it was.
-use Rattle.std.specs.Prelude.{◌≡◌, ℕ, ◌+◌, ◌<◌, ◌≤◌, Bool, true, false, not, ◌⊎◌, List, [], ◌∷◌, ◌++◌, length, nat_lt, slice_index_or}
+use Rattle.std.specs.Prelude.{◌≡◌, ℕ, ◌<◌, ◌≤◌, Bool, true, false, not, ◌⊎◌, List, [], ◌∷◌, ◌++◌, length, nat_lt, slice_index_or}
 use Rattle.rules.specs.Lists.{within}
 use Rattle.rules.specs.Views.{Bytes, InstructionV, BlockV, FunctionV, absent, promoted, IdentifierV, Hir, with_rows, with_blocks, function_at}
 use Rattle.rules.specs.Names.{temporary}

@@ -1,8 +1,8 @@
 -- The view after a name is made, spelt or promoted.
-use Rattle.std.proofs.Common.{◌≡◌, ℕ, ◌+◌, ◌<◌, ◌≤◌, List, [], ◌∷◌, ◌++◌, length, get_or, take, drop, sym, refl, ap, ◌∙◌, subst, arith, length-append, length-take-le, take-take, take_at}
-use lib.Seq.{paste, length-paste, take-append-le}
+use Rattle.std.proofs.Common.{◌≡◌, ℕ, ◌+◌, ◌<◌, ◌≤◌, ◌++◌, length, get_or, take, drop, sym, refl, ap, ◌∙◌, subst, arith, length-append, length-take-le, take_at}
+use lib.Seq.{length-paste, take-append-le}
 use Rattle.rules.specs.Lists.{changed}
-use Rattle.rules.specs.Views.{Bytes, NameV, absent, named, promoted, IdentifierV, Hir, with_identifiers, write}
+use Rattle.rules.specs.Views.{Bytes, absent, named, promoted, IdentifierV, Hir, with_identifiers, write}
 use Rattle.rules.specs.Names.{temporary}
 use Rattle.rules.specs.Props.{promote, no_identifier}
 use Rattle.hir.specs.declared.rows.Name.{Name}
@@ -11,8 +11,8 @@ use Rattle.hir.specs.declared.rows.IdentifierName.{IdentifierName}
 use Rattle.hir.specs.declared.rows.IdentifierName.TheVariants.{Absent, Named, Promoted}
 use Rattle.hir.specs.declared.rows.Identifier.{Identifier}
 use Rattle.hir.specs.Tables.{Tables, with_text, over_identifier}
-use Rattle.hir.specs.View.{Rows, rows, put_text, null_identifier, name_view, identifier_view, spelt, seen, view}
-use Rattle.hir.specs.WellFormed.{Room, text_limit, NameFits, Counted, Sound, WellFormed}
+use Rattle.hir.specs.View.{Rows, rows, put_text, null_identifier, identifier_view, spelt, seen, view}
+use Rattle.hir.specs.WellFormed.{Room, text_limit, NameFits, Sound, WellFormed}
 use Rattle.hir.specs.Frame.{Kept}
 use Rattle.hir.proofs.Runs.{run_of, run_last, run_used, length_run}
 use Rattle.hir.proofs.Growth.{sizes_are}

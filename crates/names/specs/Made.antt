@@ -1,5 +1,5 @@
 -- Names that are made: written past the used text, and taken with it.
-use Rattle.std.specs.Prelude.{ℕ, ◌+◌, ◌<◌, List, ◌++◌, length, get_or, slice_index_or}
+use Rattle.std.specs.Prelude.{ℕ, length, get_or, slice_index_or}
 use Rattle.std.proofs.Math.Seq.{paste}
 use Rattle.rules.specs.Views.{Bytes}
 use Rattle.rules.specs.Names.{temporary}

@@ -2,7 +2,7 @@
 use Rattle.std.proofs.Common.{◌≡◌, ℕ, ◌<◌, ◌≤◌, true, false, eqb, ◌⊎◌, List, [], ◌∷◌, ◌++◌, map, length, None, sym, refl, ◌∙◌, subst, inl, inr, arith}
 use Rattle.rules.specs.Lists.{gathered, select, Lists, here, there, Distinct, Sublist}
 use Rattle.rules.specs.Views.{write, Bytes, PlaceV, InstructionV, FunctionV, absent, promoted, Hir, role_is, is_written, identifiers_of, reads, writes, is_element, is_global, results}
-use Rattle.rules.specs.Names.{known, tag_temporary, temporary}
+use Rattle.rules.specs.Names.{tag_temporary, temporary}
 use Rattle.rules.specs.Props.{start_gathering, create_old_to_new_props_mapping, OutlinedJsxAttribute, collect_props, fresh, Bound, Mapping}
 use Rattle.rules.specs.Emit.{as_attribute, tag_places, last_of, take_tag, Prepared, prepare}
 use Rattle.rules.specs.Runs.{Attribute, attributes, Reading, Calls, runs, loaded, from_start}

@@ -1,5 +1,5 @@
 -- The bytes of a tag.
-use Rattle.std.proofs.Common.{◌≡◌, ℕ, zero, suc, ◌+◌, ◌-◌, ◌^◌, ◌<◌, ◌≤◌, Bool, true, false, cond, eqb, List, [], ◌∷◌, ◌++◌, length, sym, refl, ap, ◌∙◌, inl, inr, add-one, sub-one, arith, length-append, eq-eqb, ne_eqb}
+use Rattle.std.proofs.Common.{◌≡◌, ℕ, zero, suc, ◌+◌, ◌-◌, ◌^◌, ◌<◌, ◌≤◌, Bool, true, false, cond, [], ◌∷◌, ◌++◌, length, sym, ap, ◌∙◌, inl, inr, add-one, sub-one, arith, length-append, eq-eqb, ne_eqb}
 use Rattle.rules.specs.Views.{Bytes, Hir, write}
 use Rattle.rules.specs.Emit.{take_tag}
 use Rattle.std.proofs.lemmas.List.{length-map}

@@ -1,16 +1,15 @@
 -- Rows that stay, one row more: the tables while they are gathered, and what the whole gives.
-use Rattle.std.proofs.Common.{◌≡◌, ℕ, zero, suc, ◌+◌, ◌<◌, ◌≤◌, Bool, true, false, ◌≢◌, List, [], ◌∷◌, ◌++◌, map, length, get_or, take, drop, set, sym, refl, ap, ◌∙◌, subst, inl, inr, append-nil, arith, length-append, length-take-le, take_all}
+use Rattle.std.proofs.Common.{◌≡◌, ℕ, zero, suc, ◌+◌, ◌<◌, ◌≤◌, Bool, true, false, ◌≢◌, List, [], ◌∷◌, ◌++◌, map, length, get_or, take, set, sym, refl, ap, ◌∙◌, subst, append-nil, arith, length-take-le}
 use lib.Seq.{paste, length-paste}
 use Rattle.std.specs.List.{AllByRecursion}
 use Rattle.std.proofs.lemmas.List.{get_or_default, take_more}
 use Rattle.std.proofs.ByRecursion.{All-get_or, All-from_get_or}
 use Rattle.rules.specs.Lists.{select}
-use Rattle.rules.specs.Views.{InstructionV, with_list, rows_at}
-use Rattle.hir.specs.declared.rows.Run.{Run}
+use Rattle.rules.specs.Views.{InstructionV}
 use Rattle.hir.specs.Used.{in_run}
-use Rattle.hir.specs.Tables.{Tables, hold_numbers}
-use Rattle.hir.specs.View.{rows, instruction_at, instructions_at, view}
-use Rattle.hir.specs.WellFormed.{Room, Pairwise, Unlike, Readable, RunFits, WellFormed}
+use Rattle.hir.specs.Tables.{Tables}
+use Rattle.hir.specs.View.{rows, instruction_at}
+use Rattle.hir.specs.WellFormed.{Pairwise, Unlike, Readable}
 use Rattle.hir.proofs.Runs.{run_of, getD_run, length_run, getD_paste_after, pasted_both, set_paste}
 use Rattle.thin.specs.Kept.{kept_of, rewritten}
 

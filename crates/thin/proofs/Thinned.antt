@@ -1,5 +1,5 @@
 -- A block's list without some of its rows: the store it makes.
-use Rattle.std.proofs.Common.{◌≡◌, ℕ, ◌+◌, ◌<◌, ◌≤◌, Bool, ◌≢◌, List, length, get_or, sym, refl, ap, ◌∙◌, subst, arith}
+use Rattle.std.proofs.Common.{◌≡◌, ℕ, ◌<◌, ◌≤◌, Bool, List, length, get_or, sym, ap, ◌∙◌, subst, arith}
 use Rattle.rules.specs.Lists.{select}
 use Rattle.rules.specs.Views.{InstructionV, with_list, rows_at}
 use Rattle.hir.specs.declared.rows.Run.{Run}
@@ -7,7 +7,7 @@ use Rattle.hir.specs.declared.rows.Counts.{Counts}
 use Rattle.hir.specs.declared.rows.BasicBlock.{BasicBlock}
 use Rattle.hir.specs.Used.{in_run}
 use Rattle.hir.specs.Tables.{Tables}
-use Rattle.hir.specs.View.{rows, null_block, instruction_at, instructions_at, view}
+use Rattle.hir.specs.View.{rows, null_block, instruction_at, view}
 use Rattle.hir.specs.WellFormed.{Unlike, WellFormed}
 use Rattle.hir.specs.Lists.{block_number, block_of, with_thinned_list, HasBlock, ListFits, UnlistedBut}
 use Rattle.hir.specs.Frame.{Kept}
@@ -15,7 +15,7 @@ use Rattle.hir.proofs.Runs.{run_used, length_run}
 use Rattle.hir.proofs.Growth.{sizes_are}
 use Rattle.hir.proofs.Listed.{numbers_sized, block_used, block_is, block_fits_at, view_thinned, well_thinned, kept_thinned}
 use Rattle.hir.proofs.Seen.{list_seen, list_listed}
-use Rattle.thin.specs.Kept.{kept_of, kept_numbers}
+use Rattle.thin.specs.Kept.{kept_numbers}
 use Rattle.thin.proofs.Front.{length_select, all_select, unlike_select, once_select, map_select}
 
 module _ (test : InstructionV → Bool) (t : Tables) (w : WellFormed t) (f k : ℕ) (has : HasBlock t f k) where

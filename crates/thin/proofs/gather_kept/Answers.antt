@@ -1,4 +1,4 @@
-use Rattle.std.proofs.Common.{◌≡◌, ℕ, ◌+◌, ◌<◌, ◌≤◌, Bool, true, false, List, [], length, get_or, take, set, sym, refl, ap, ◌∙◌, subst, arith, length-set, take_all, rules}
+use Rattle.std.proofs.Common.{◌≡◌, ℕ, ◌+◌, ◌<◌, Bool, List, [], length, get_or, take, set, sym, refl, ap, ◌∙◌, subst, arith, length-set, take_all, rules}
 use Rattle.std.proofs.lemmas.List.{length_push}
 use lib.Seq.{paste, paste-zero}
 use Rattle.rules.specs.Views.{InstructionV}
@@ -6,7 +6,7 @@ use Rattle.hir.specs.Used.{in_run}
 use Rattle.hir.specs.Tables.{Tables, tables, hold_numbers, Held}
 use Rattle.hir.specs.View.{rows, instruction_at}
 use Rattle.hir.specs.WellFormed.{Readable}
-use Rattle.hir.proofs.Runs.{run_of, length_run}
+use Rattle.hir.proofs.Runs.{length_run}
 use Rattle.thin.specs.Kept.{kept_of, rewritten}
 use Rattle.thin.proofs.Front.{so_far, so_far_le, row_read, row_used, stays_more, goes_more, written_more, readable_still}
 use Rattle.thin.proofs.gather_kept.Goals as goal

@@ -1,5 +1,4 @@
-use Rattle.std.proofs.Common.{◌≡◌, ◌+◌, ◌/◌, ◌%◌, ◌^◌, ◌<◌, length, set, sym, ap, ◌∙◌, arith, rules}
-use lib.Seq.{paste}
+use Rattle.std.proofs.Common.{arith, rules}
 use Rattle.names.proofs.Numbers.{length_short, length_long, put_short, put_long}
 use Rattle.names.proofs.digits.+write_decimal.Goals as goal
 

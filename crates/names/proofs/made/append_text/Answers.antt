@@ -1,7 +1,5 @@
-use Rattle.std.proofs.Common.{◌≡◌, ℕ, ◌+◌, ◌++◌, length, sym, ap, ◌∙◌, subst, arith, length-append}
+use Rattle.std.proofs.Common.{length, sym, ap, ◌∙◌, subst}
 use Rattle.rules.specs.Views.{Bytes}
-use Rattle.rules.specs.Names.{numeral}
-use Rattle.hir.specs.declared.rows.Name.{Name}
 use Rattle.hir.specs.declared.rows.Counts.{Counts}
 use Rattle.hir.specs.Tables.{Tables, tables}
 use Rattle.hir.specs.View.{spelt, view}

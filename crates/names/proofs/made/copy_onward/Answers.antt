@@ -1,4 +1,4 @@
-use Rattle.std.proofs.Common.{◌≡◌, ℕ, ◌+◌, List, get_or, take, drop, set, ap, ◌∙◌, arith}
+use Rattle.std.proofs.Common.{ℕ, ◌+◌, List, get_or, take, drop, set, ap, ◌∙◌, arith}
 use lib.Seq.{paste-zero}
 use Rattle.names.proofs.Pasted.{copied_more}
 use Rattle.names.proofs.made.copy_onward.Goals as goal

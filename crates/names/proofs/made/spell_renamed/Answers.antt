@@ -1,4 +1,4 @@
-use Rattle.std.proofs.Common.{◌≡◌, ℕ, ◌+◌, ◌-◌, List, ◌++◌, length, take, drop, sym, refl, ap, ◌∙◌, subst, arith, length-append, rules}
+use Rattle.std.proofs.Common.{◌≡◌, ℕ, ◌+◌, ◌-◌, List, ◌++◌, length, sym, ap, ◌∙◌, subst, arith, length-append, rules}
 use lib.Seq.{paste}
 use Rattle.rules.specs.Views.{Bytes}
 use Rattle.rules.specs.Names.{numeral}
@@ -6,7 +6,6 @@ use Rattle.hir.specs.declared.rows.Name.{Name}
 use Rattle.hir.specs.Tables.{Tables, tables, hold_text}
 use Rattle.hir.specs.View.{spelt, view}
 use Rattle.hir.specs.WellFormed.{Room, text_limit, WellFormed}
-use Rattle.names.specs.Made.{with_spare_text}
 use Rattle.hir.proofs.Runs.{pasted_both}
 use Rattle.names.proofs.Naming.{spelt_in, length_spelt, view_spare, well_spare}
 use Rattle.names.proofs.made.spell_renamed.Goals as goal

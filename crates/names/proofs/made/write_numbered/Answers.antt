@@ -3,7 +3,6 @@ use lib.Seq.{paste}
 use Rattle.std.proofs.lemmas.Slice.{put_mid-paste}
 use Rattle.rules.specs.Names.{numeral}
 use Rattle.hir.specs.declared.rows.Name.{Name}
-use Rattle.hir.specs.declared.rows.Counts.{Counts}
 use Rattle.hir.specs.Tables.{tables, hold_text, more_text}
 use Rattle.hir.proofs.Runs.{pasted_both}
 use Rattle.names.proofs.made.write_numbered.Goals as goal

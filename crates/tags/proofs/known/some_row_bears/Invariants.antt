@@ -1,6 +1,6 @@
 use Rattle.std.proofs.Common.{◌≡◌, ◌-◌, drop}
 use Rattle.hir.specs.Tables.{tables}
-use Rattle.hir.specs.View.{rows, view}
+use Rattle.hir.specs.View.{rows}
 use Rattle.tags.proofs.Bearing.{some_row}
 use Rattle.tags.proofs.known.some_row_bears.Given as goal
 

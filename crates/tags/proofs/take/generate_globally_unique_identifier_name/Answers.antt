@@ -1,15 +1,14 @@
-use Rattle.std.proofs.Common.{◌≡◌, ℕ, ◌+◌, ◌≤◌, length, sym, refl, ap, ◌∙◌, subst, arith, rules}
+use Rattle.std.proofs.Common.{ℕ, ◌+◌, ◌≤◌, length, sym, ap, ◌∙◌, subst, arith, rules}
 use Rattle.rules.specs.Views.{Bytes}
 use Rattle.rules.specs.Names.{tag_name, next_tag}
-use Rattle.hir.specs.declared.rows.Name.{Name}
 use Rattle.hir.specs.declared.rows.Counts.{Counts}
 use Rattle.hir.specs.declared.tag.Tag.{Tag}
 use Rattle.hir.specs.Tables.{Tables, tables, hold_text, tag_taken, with_text, with_tag}
 use Rattle.hir.specs.View.{spelt, view}
-use Rattle.hir.specs.WellFormed.{NameFits, Room, text_limit, WellFormed}
+use Rattle.hir.specs.WellFormed.{NameFits, Room, text_limit}
 use Rattle.hir.proofs.Calls.{becomes}
 use Rattle.hir.proofs.Laws.{well_text, well_tag}
-use Rattle.hir.proofs.Frames.{held_then, kept_then, kept_text, kept_tag}
+use Rattle.hir.proofs.Frames.{kept_then, kept_text, kept_tag}
 use Rattle.names.specs.Made.{next_name}
 use Rattle.names.proofs.Naming.{made_fits, spelt_made}
 use Rattle.tags.proofs.Spelling.{length_tag, tag_some, view_tag}

@@ -1,8 +1,7 @@
-use Rattle.std.proofs.Common.{◌≡◌, ℕ, suc, ◌+◌, ◌-◌, sym, refl, ap, ◌∙◌, arith}
-use Rattle.rules.specs.Names.{free_tag, known, next_tag}
-use Rattle.hir.specs.Tables.{Tables, tables}
+use Rattle.std.proofs.Common.{sym, ◌∙◌, arith}
+use Rattle.rules.specs.Names.{known}
+use Rattle.hir.specs.Tables.{tables}
 use Rattle.hir.specs.View.{view}
-use Rattle.hir.specs.WellFormed.{WellFormed}
 use Rattle.tags.proofs.Spelling.{tries_first, tries_stop, tries_on}
 use Rattle.tags.proofs.take.next_tag_number.Goals as goal
 

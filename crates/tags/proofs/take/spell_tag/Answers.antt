@@ -1,10 +1,10 @@
-use Rattle.std.proofs.Common.{◌≡◌, ℕ, ◌+◌, ◌≤◌, List, ◌++◌, length, take, sym, refl, ap, ◌∙◌, arith, length-append, rules}
+use Rattle.std.proofs.Common.{◌≡◌, ℕ, ◌+◌, List, ◌++◌, length, take, sym, refl, ap, ◌∙◌, arith, length-append}
 use lib.Seq.{paste, length-paste}
 use Rattle.std.proofs.lemmas.Slice.{put_mid-paste}
 use Rattle.rules.specs.Names.{numeral}
 use Rattle.hir.proofs.Runs.{pasted_both, take_written}
 use Rattle.names.proofs.Numbers.{length_numeral_le}
-use Rattle.tags.proofs.Spelling.{temp, tag_first, tag_later}
+use Rattle.tags.proofs.Spelling.{temp, tag_later}
 use Rattle.tags.proofs.take.spell_tag.Goals as goal
 
 pub write_decimal-requires : goal.write_decimal-requires
