@@ -1,9 +1,9 @@
 -- Functions passed one after another.
-use Rattle.std.proofs.Common.{◌≡◌, ℕ, ◌<◌, true, false, ◌⊎◌, List, [], ◌∷◌, ◌++◌, length, get_or, set, sym, refl, ◌∙◌, subst, inl, inr, arith, get_or-set_other, get_or-set_same}
+use Rattle.std.proofs.Common.{◌≡◌, ℕ, ◌<◌, false, List, [], ◌∷◌, ◌++◌, length, get_or, set, sym, refl, subst, inl, inr, arith, get_or-set_other, get_or-set_same}
 use Rattle.std.proofs.lemmas.Bool.{both_ways, cases_eq, eqb-true, or_cases}
-use Rattle.rules.specs.Lists.{within, Distinct}
+use Rattle.rules.specs.Lists.{Distinct}
 use Rattle.rules.specs.Views.{Hir, function_at}
-use Rattle.rules.proofs.Membership.{In, Out, in_out, in_cases, in_left, in_right, in_head, out_if, distinct_left, distinct_right, distinct_apart}
+use Rattle.rules.proofs.Membership.{In, in_out, in_cases, in_left, in_right, in_head, out_if, distinct_left, distinct_right, distinct_apart}
 use Rattle.inner_walk.specs.Passing.{Passable, Passed}
 
 distinct_join : (xs ys : List ℕ) → Distinct xs → Distinct ys → ((x : ℕ) → In x xs → In x ys → ⊥) → Distinct (xs ++ ys)

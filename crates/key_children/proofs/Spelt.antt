@@ -4,7 +4,6 @@ use Rattle.std.proofs.lemmas.List.{get_or-map}
 use Rattle.std.proofs.ByRecursion.{All-get_or}
 use Rattle.rules.specs.Views.{Bytes, absent, IdentifierV}
 use Rattle.hir.specs.declared.rows.Counts.{Counts}
-use Rattle.hir.specs.declared.rows.Identifier.{Identifier}
 use Rattle.hir.specs.declared.rows.IdentifierName.{IdentifierName}
 use Rattle.hir.specs.declared.rows.IdentifierName.TheVariants.{Absent, Named, Promoted}
 use Rattle.hir.specs.Tables.{Tables}

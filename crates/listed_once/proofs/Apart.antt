@@ -8,7 +8,6 @@ use Rattle.std.proofs.lemmas.Bool.Decides.{leb_tells}
 use Rattle.hir.specs.declared.rows.Run.{Run}
 use Rattle.hir.specs.declared.rows.Counts.{Counts}
 use Rattle.hir.specs.declared.rows.BasicBlock.{BasicBlock}
-use Rattle.hir.specs.declared.rows.HirFunction.{HirFunction}
 use Rattle.hir.specs.Used.{in_run}
 use Rattle.hir.specs.View.{Rows, rows, null_block, null_function}
 use Rattle.hir.specs.WellFormed.{RunFits, Counted, Clear, Pairwise, Unlike, BlocksApart, FunctionsApart}

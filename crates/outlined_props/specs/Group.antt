@@ -1,7 +1,7 @@
 -- A group, by the numbers of its rows; that there is room for what comes of it, and what it then has taken.
 use Rattle.std.specs.Prelude.{◌≡◌, ℕ, ◌+◌, ◌^◌, ◌<◌, ◌≤◌, true, List, [], length}
 use Rattle.std.specs.List.{AllByRecursion}
-use Rattle.rules.specs.Views.{InstructionV, Hir, is_element}
+use Rattle.rules.specs.Views.{InstructionV, is_element}
 use Rattle.rules.specs.Emit.{Outcome, process_jsx_group}
 use Rattle.laws.specs.Allowances.{rows_counts}
 use Rattle.laws.specs.Sufficing.{Formed}

@@ -1,11 +1,10 @@
 -- What holds of every block of a function, block by block.
-use Rattle.std.proofs.Common.{◌≡◌, ℕ, zero, suc, ◌<◌, List, [], ◌∷◌, map, length, get_or, sym, refl, ap, ◌∙◌, subst, arith, get_or-take}
+use Rattle.std.proofs.Common.{◌≡◌, ℕ, zero, suc, ◌<◌, List, [], ◌∷◌, length, get_or, ap, ◌∙◌, subst, arith, get_or-take}
 use Rattle.std.specs.List.{AllByRecursion}
 use Rattle.std.proofs.lemmas.List.{get_or-map, length-map}
 use Rattle.std.proofs.ByRecursion.{All-get_or}
 use Rattle.rules.specs.Views.{InstructionV, BlockV, FunctionV, no_function, function_at, block_rows, rows_at}
 use Rattle.hir.specs.declared.rows.Counts.{Counts}
-use Rattle.hir.specs.declared.rows.HirFunction.{HirFunction}
 use Rattle.hir.specs.Tables.{Tables}
 use Rattle.hir.specs.Used.{in_run}
 use Rattle.hir.specs.View.{rows, block_view, function_view, null_function, view}

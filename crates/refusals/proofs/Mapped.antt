@@ -1,5 +1,5 @@
 -- What holds of every element of a mapped list, by positions of the list.
-use Rattle.std.proofs.Common.{◌≡◌, ℕ, ◌<◌, List, map, length, get_or, subst, arith}
+use Rattle.std.proofs.Common.{ℕ, ◌<◌, List, map, length, get_or, subst, arith}
 use Rattle.std.specs.List.{AllByRecursion}
 use Rattle.std.proofs.lemmas.List.{get_or-map, length-map}
 use Rattle.std.proofs.ByRecursion.{All-get_or, All-from_get_or, All-map}

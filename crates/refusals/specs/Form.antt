@@ -1,5 +1,5 @@
 -- The form of a store: what is asked of each used row by itself, and of rows compared with one another.
-use Rattle.std.specs.Prelude.{◌≡◌, ℕ, ◌+◌, ◌-◌, ◌<◌, ◌≤◌, true, false, ◌≢◌, List, [], length, is_some, Option, slice_index_or}
+use Rattle.std.specs.Prelude.{◌≡◌, ℕ, ◌-◌, ◌<◌, ◌≤◌, true, false, ◌≢◌, List, length, is_some, Option, slice_index_or}
 use Rattle.std.specs.List.{AllByRecursion}
 use Rattle.rules.specs.Kinds.{destructure_kind, jsx_kind, load_global_kind}
 use Rattle.hir.specs.declared.rows.Counts.{Counts}

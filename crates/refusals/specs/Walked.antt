@@ -1,9 +1,9 @@
 -- What is asked of the functions on the walk, on what the tables say.
-use Rattle.std.specs.Prelude.{◌≡◌, ℕ, zero, suc, ◌+◌, ◌<◌, ◌≤◌, Bool, true, false, List, [], ◌∷◌, length, get_or, Some, None, Option, ◌==◌, slice_index_or}
+use Rattle.std.specs.Prelude.{◌≡◌, ℕ, zero, suc, ◌+◌, ◌<◌, ◌≤◌, Bool, true, false, List, length, get_or, Some, None, Option, ◌==◌, slice_index_or}
 use Rattle.std.specs.List.{AllByRecursion}
 use Rattle.rules.specs.Lists.{select, gathered, within, Distinct}
 use Rattle.rules.specs.Kinds.{phi_kind}
-use Rattle.rules.specs.Views.{Bytes, PlaceV, InstructionV, BlockV, FunctionV, NameV, absent, named, promoted, IdentifierV, Hir, role_is, is_element, writes, function_at, function_rows}
+use Rattle.rules.specs.Views.{Bytes, PlaceV, InstructionV, BlockV, FunctionV, NameV, absent, named, promoted, Hir, role_is, is_element, writes, function_at, function_rows}
 use Rattle.rules.specs.Names.{is_key}
 use Rattle.rules.specs.Outline.{depth}
 use Rattle.rules.specs.Drawn.{OrderedBlocks, inner_of, on_walk}

@@ -1,4 +1,4 @@
-use Rattle.std.proofs.Common.{arith, below_more}
+use Rattle.std.proofs.Common.{arith}
 use Rattle.hir.specs.Tables.{tables}
 use Rattle.hir.specs.View.{instruction_at, rows, view}
 use Rattle.refusals.specs.Walked.{Keyless}

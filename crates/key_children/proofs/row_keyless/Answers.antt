@@ -1,4 +1,4 @@
-use Rattle.std.proofs.Common.{◌<◌, arith}
+use Rattle.std.proofs.Common.{◌<◌}
 use Rattle.std.proofs.ByRecursion.{All-get_or}
 use Rattle.hir.specs.Tables.{tables}
 use Rattle.hir.proofs.Seen.{readable}

@@ -1,4 +1,4 @@
-use Rattle.std.proofs.Common.{length, arith}
+use Rattle.std.proofs.Common.{length}
 use native.Mathlib.Nat.{sub-zero}
 use Rattle.hir.specs.Tables.{tables}
 use Rattle.hir.specs.View.{rows}

@@ -1,4 +1,4 @@
-use Rattle.std.proofs.Common.{◌≡◌, ℕ, ◌+◌, ◌<◌, ◌≤◌, true, length, get_or, is_some}
+use Rattle.std.proofs.Common.{◌≡◌, ℕ, ◌<◌, ◌≤◌, true, length, get_or, is_some}
 use Rattle.hir.specs.View.{null_place}
 use Rattle.refusals.specs.Form.{role_at}
 use Rattle.store_form.proofs.instructions.destructure_formed.Given as goal

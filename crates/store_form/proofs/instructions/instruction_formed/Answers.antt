@@ -1,4 +1,4 @@
-use Rattle.std.proofs.Common.{◌≡◌, ℕ, ◌+◌, ◌-◌, take, drop, sym, subst, arith, rules}
+use Rattle.std.proofs.Common.{◌≡◌, ℕ, ◌+◌, ◌-◌, take, drop, sym, subst, arith}
 use Rattle.refusals.specs.Form.{KindFormed}
 use Rattle.refusals.proofs.Tests.{when_like}
 use Rattle.store_form.proofs.instructions.instruction_formed.Goals as goal

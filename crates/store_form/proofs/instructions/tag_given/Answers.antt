@@ -1,4 +1,4 @@
-use Rattle.std.proofs.Common.{◌≡◌, ℕ, true, false, ◌≢◌, List, [], ◌∷◌, length, sym, ◌∙◌, arith, rules}
+use Rattle.std.proofs.Common.{◌≡◌, ◌≢◌, List, [], ◌∷◌, length, arith, rules}
 use Rattle.hir.specs.declared.rows.Place.{Place}
 use Rattle.refusals.specs.Form.{role_at}
 use Rattle.store_form.proofs.instructions.tag_given.Goals as goal
