@@ -1,8 +1,8 @@
 -- Blocks marked one after another.
-use Rattle.std.proofs.Common.{◌≡◌, ℕ, zero, suc, ◌+◌, ◌<◌, ◌≤◌, true, false, ◌⊎◌, List, [], ◌∷◌, ◌++◌, length, get_or, take, drop, sym, refl, ap, ◌∙◌, subst, inl, inr, append_assoc, append-nil, add-one, arith}
+use Rattle.std.proofs.Common.{◌≡◌, ℕ, zero, suc, ◌+◌, ◌<◌, ◌≤◌, List, [], ◌∷◌, ◌++◌, length, get_or, take, drop, sym, refl, ap, ◌∙◌, subst, inl, inr, append_assoc, append-nil, add-one, arith}
 use Rattle.std.proofs.lemmas.Bool.{cases_Bool}
 use Rattle.rules.specs.Lists.{within, gathered, Distinct}
-use Rattle.rules.specs.Views.{InstructionV, BlockV, FunctionV, writes, rows_of, block_rows, function_rows}
+use Rattle.rules.specs.Views.{BlockV, FunctionV, writes, rows_of, block_rows}
 use Rattle.rules.specs.Drawn.{Ordered, OrderedBlocks}
 use Rattle.refusals.specs.Walked.{WritesSound}
 use Rattle.read_write.specs.Written.{Markable, Marked, RowsSound, RowsDone}

@@ -1,11 +1,11 @@
 -- Places marked and read one after another.
-use Rattle.std.proofs.Common.{◌≡◌, ℕ, ◌+◌, ◌<◌, ◌≤◌, Bool, true, false, eqb, leb, ◌≢◌, ◌⊎◌, List, [], ◌∷◌, ◌++◌, map, length, get_or, drop, sym, refl, ap, ◌∙◌, subst, inl, inr, append_assoc, append-nil, arith}
-use Rattle.std.proofs.lemmas.List.{at_drop_more, at_drop_all}
+use Rattle.std.proofs.Common.{◌≡◌, ℕ, ◌+◌, ◌<◌, ◌≤◌, Bool, true, false, eqb, leb, ◌≢◌, List, [], ◌∷◌, ◌++◌, map, length, get_or, drop, sym, refl, ap, ◌∙◌, subst, inl, inr, append_assoc, append-nil, arith}
+use Rattle.std.proofs.lemmas.List.{at_drop_more}
 use Rattle.std.proofs.lemmas.Bool.{eq-eqb, eqb-true, or_cases}
 use Rattle.std.proofs.lemmas.Bool.Decides.{eqb_tells, leb_tells}
 use Rattle.rules.specs.Lists.{select, within}
-use Rattle.rules.specs.Views.{Bytes, PlaceV, identifiers_of, is_read, is_written}
-use Rattle.rules.proofs.Membership.{In, in_head, in_right}
+use Rattle.rules.specs.Views.{Bytes, identifiers_of, is_read, is_written}
+use Rattle.rules.proofs.Membership.{in_head, in_right}
 use Rattle.hir.specs.declared.rows.Place.{Place}
 use Rattle.hir.specs.View.{place_view, null_place}
 use Rattle.read_write.specs.Written.{written_in, read_in, Markable, Marked, Unnumbered}

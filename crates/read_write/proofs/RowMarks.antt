@@ -1,15 +1,15 @@
 -- Rows marked one after another, from the last to the first.
-use Rattle.std.proofs.Common.{◌≡◌, ℕ, zero, suc, ◌+◌, ◌-◌, ◌<◌, ◌≤◌, Bool, true, false, eqb, ◌≢◌, ◌⊎◌, List, [], ◌∷◌, ◌++◌, map, length, get_or, take, drop, sym, refl, ap, ◌∙◌, subst, inl, inr, append_assoc, arith, take-append-drop}
+use Rattle.std.proofs.Common.{◌≡◌, ℕ, ◌+◌, ◌-◌, ◌<◌, ◌≤◌, true, false, eqb, ◌≢◌, List, [], ◌∷◌, ◌++◌, map, length, get_or, take, drop, sym, refl, ap, ◌∙◌, subst, inl, inr, append_assoc, arith, take-append-drop}
 use Rattle.std.proofs.lemmas.List.{at_drop_more}
 use Rattle.std.proofs.lemmas.Bool.{eq-eqb}
 use Rattle.std.specs.List.{AllByRecursion}
 use Rattle.std.proofs.ByRecursion.{All-weaker}
 use Rattle.std.proofs.lemmas.Bool.Decides.{eqb_tells}
 use Rattle.rules.specs.Kinds.{phi_kind}
-use Rattle.rules.specs.Lists.{select, within, gathered, Distinct}
+use Rattle.rules.specs.Lists.{select, gathered}
 use Rattle.rules.specs.Views.{Bytes, InstructionV, reads, writes, identifiers_of, is_read, is_written}
 use Rattle.rules.specs.Drawn.{Ordered}
-use Rattle.rules.proofs.Membership.{In, Out, in_out, out_if, in_cases, out_parts, in_left, in_right}
+use Rattle.rules.proofs.Membership.{In, Out, in_out, out_if, in_cases, out_parts}
 use Rattle.hir.specs.declared.rows.Counts.{Counts}
 use Rattle.hir.specs.declared.rows.Place.{Place}
 use Rattle.hir.specs.declared.rows.Instruction.{Instruction}

@@ -1,6 +1,6 @@
 -- Identifiers that are marked when they are written. A mark is a number: above the base it is of this function, and the block that is
 -- looked at has a number of its own, above those of the function's blocks before.
-use Rattle.std.specs.Prelude.{◌≡◌, ℕ, ◌<◌, ◌≤◌, true, false, ◌≢◌, List, [], ◌∷◌, ◌==◌, nat_le, slice_index}
+use Rattle.std.specs.Prelude.{◌≡◌, ℕ, ◌≤◌, true, false, ◌≢◌, List, [], ◌∷◌, ◌==◌, nat_le, slice_index}
 use Rattle.rules.specs.Lists.{within, gathered, Distinct}
 use Rattle.rules.specs.Views.{InstructionV, reads, writes}
 use Rattle.rules.specs.Drawn.{Ordered}
