@@ -2,7 +2,7 @@ ghost use Rattle.std.specs.Prelude.{◌≡◌, ℕ, ◌+◌, ◌-◌, ◌<◌, �
 ghost use Rattle.std.proofs.Math.Seq.{paste};
 ghost use Rattle.rules.specs.Views.{write};
 ghost use Rattle.rules.specs.Names.{numeral, temporary};
-ghost use Rattle.rules.specs.Props.{promote as promote-rule};
+ghost use Rattle.rules.specs.Props.{promote as promote_rule};
 ghost use Rattle.hir.specs.Tables.{tables, with_text, Held};
 ghost use Rattle.hir.specs.View.{null_identifier, spelt, view};
 ghost use Rattle.hir.specs.WellFormed.{text_limit, NameFits, Room, WellFormed};
@@ -116,7 +116,7 @@ pub fn promote(store: &mut Store<'_>, id: IdentifierId)
     requires well { WellFormed (tables store.old) }
     requires used { id.0 < store.old.counts.identifiers }
     requires room { Room store.old.counts.text (length (temporary (slice_index_or store.old.identifiers.now id.0 null_identifier).declaration)) (length store.old.text.now) text_limit }
-    ensures does { Becomes store.old store.new (with_promoted (tables store.old) id.0) (promote-rule (view (tables store.old)) id.0) }
+    ensures does { Becomes store.old store.new (with_promoted (tables store.old) id.0) (promote_rule (view (tables store.old)) id.0) }
 {
     write_promoted(store, id)
 }

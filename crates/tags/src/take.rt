@@ -1,5 +1,5 @@
 ghost use Rattle.std.specs.Prelude.{◌≡◌, ℕ, ◌+◌, ◌-◌, ◌^◌, ◌<◌, ◌≤◌, length, take};
-ghost use Rattle.rules.specs.Names.{free_tag, known, next_tag, tag_name};
+ghost use Rattle.rules.specs.Names.{known, next_tag, tag_name};
 ghost use Rattle.rules.specs.Views.{write};
 ghost use Rattle.rules.specs.Emit.{take_tag};
 ghost use Rattle.hir.specs.Tables.{tables, with_tag, with_text};
