@@ -1,6 +1,11 @@
 //! Refusal 9: how much an outline may take of each table, counted on the functions that it walks.
 #![tactic(auto)]
 
+ghost use Rattle.std.specs.Prelude.{MatchBool, MatchOption};
+ghost use Rattle.hir.specs.Tables.{tables};
+ghost use Rattle.hir.specs.WellFormed.{Room};
+ghost use Rattle.allowances.specs.Rooms.{Allowable, Allowed, HasRoom};
+ghost use Rattle.allowances.specs.Tallies.{counts_of};
 
 use hir::{FunctionId, Instruction, InstructionId, Store};
 
@@ -109,7 +114,10 @@ fn element_tally(store: &Store<'_>, row: &Instruction) -> Option<Tally> {
     Some(sum)
 }
 
-pub fn allowances_of(t: Tally) -> Option<Allowances> {
+// What a tally allows, unless some number of it passes 64 bits.
+pub fn allowances_of(t: Tally) -> Option<Allowances>
+    ensures { MatchOption result (Allowable (counts_of t) → ⊥) (λ a. Allowed (counts_of t) a) }
+{
     let entries = t.attributes.checked_add(t.children)?;
     Some(Allowances {
         identifiers: entries.checked_add(t.pairs.checked_mul(4)?)?,
@@ -136,7 +144,9 @@ pub fn allowances_of(t: Tally) -> Option<Allowances> {
     })
 }
 
-fn fits(used: u32, allowed: u64, rows: usize, limit: u64) -> bool {
+fn fits(used: u32, allowed: u64, rows: usize, limit: u64) -> bool
+    ensures { MatchBool result (Room used allowed rows limit) (Room used allowed rows limit → ⊥) }
+{
     match (used as u64).checked_add(allowed) {
         Some(sum) => sum <= rows as u64 && sum <= limit,
         None => false,
@@ -144,7 +154,9 @@ fn fits(used: u32, allowed: u64, rows: usize, limit: u64) -> bool {
 }
 
 // There are as many spare rows in each table.
-pub fn spare(store: &Store<'_>, a: Allowances) -> bool {
+pub fn spare(store: &Store<'_>, a: Allowances) -> bool
+    ensures { MatchBool result (HasRoom (tables store.now) a) (HasRoom (tables store.now) a → ⊥) }
+{
     fits(store.counts.text, a.text, store.text.len(), 1048576)
         && fits(
             store.counts.identifiers,
