@@ -1,6 +1,9 @@
 -- A tally as counts, and what an answer of a tally says.
-use Rattle.std.specs.Prelude.{◌≡◌, ◌^◌, ◌<◌, Option, MatchOption}
-use Rattle.laws.specs.Allowances.{Counts}
+use Rattle.std.specs.Prelude.{◌≡◌, ℕ, ◌^◌, ◌<◌, List, Option, MatchOption}
+use Rattle.rules.specs.Lists.{gathered}
+use Rattle.rules.specs.Views.{Hir, function_at}
+use Rattle.rules.specs.Drawn.{on_walk}
+use Rattle.laws.specs.Allowances.{Counts, function_counts, tally}
 use Rattle.allowances.specs.declared.Tally.{Tally}
 
 -- the numbers of a tally
@@ -19,3 +22,7 @@ pub record Countable (c : Counts) : Type 0 where
 -- the answer has these counts; there is none only where one of them does not fit
 abbrev pub Tallied : Option Tally → Counts → Type 0
 Tallied r c = MatchOption r (Countable c → ⊥) (λ (t : Tally). counts_of t ≡ c)
+
+-- the functions on the walks from these functions, to a depth
+abbrev pub walks_counts : ℕ → Hir → List ℕ → Counts
+walks_counts d h fs = tally (λ g. function_counts (function_at h g)) (gathered (on_walk d h) fs)

@@ -1,13 +1,21 @@
 //! Refusal 9: how much an outline may take of each table, counted on the functions that it walks.
 #![tactic(auto)]
 
-ghost use Rattle.std.specs.Prelude.{MatchBool, MatchOption};
+ghost use Rattle.std.specs.Prelude.{◌≡◌, ℕ, ◌<◌, length, MatchBool, MatchOption, slice_index};
+ghost use Rattle.std.specs.List.{AllByRecursion};
+ghost use Rattle.rules.specs.Drawn.{inner};
+ghost use Rattle.rules.specs.Views.{function_at};
+ghost use Rattle.laws.specs.Allowances.{block_counts, function_counts, halved, plus, row_counts, rows_counts, walk_counts};
 ghost use Rattle.hir.specs.Tables.{tables};
-ghost use Rattle.hir.specs.WellFormed.{Room};
+ghost use Rattle.hir.specs.View.{instruction_at, instructions_at, rows, view};
+ghost use Rattle.hir.specs.WellFormed.{Readable, Room, WellFormed};
+ghost use Rattle.allowances.specs.Places.{letters_in, one_element, place_counts, places_counts};
 ghost use Rattle.allowances.specs.Rooms.{Allowable, Allowed, HasRoom};
-ghost use Rattle.allowances.specs.Tallies.{counts_of};
+ghost use Rattle.allowances.specs.Tallies.{counts_of, Tallied, walks_counts};
 
-use hir::{FunctionId, Instruction, InstructionId, Store};
+use hir::{FunctionId, InstructionId, Name, Place, Store};
+use listed_rows::listed_row;
+use reading::{block_list, row_places};
 
 // What is counted outside Components: attributes, children, elements, the elements of each block halved, the rows of new lists, and the
 // bytes of attribute names.
@@ -42,7 +50,10 @@ const NOTHING: Tally = Tally {
     letters: 0,
 };
 
-fn plus(a: Tally, b: Tally) -> Option<Tally> {
+// Both together, unless some number passes 64 bits.
+fn plus(a: Tally, b: Tally) -> Option<Tally>
+    ensures { Tallied result (plus (counts_of a) (counts_of b)) }
+{
     Some(Tally {
         attributes: a.attributes.checked_add(b.attributes)?,
         children: a.children.checked_add(b.children)?,
@@ -53,65 +64,149 @@ fn plus(a: Tally, b: Tally) -> Option<Tally> {
     })
 }
 
-// The functions on the walk from a function, together.
-pub fn walk_tally(store: &Store<'_>, function: FunctionId, depth: u32) -> Option<Tally> {
+// The functions on the walk from a function, together. None only where a sum passes 64 bits.
+#[cycle(walk_tally)]
+pub fn walk_tally(store: &Store<'_>, function: FunctionId, depth: u32) -> Option<Tally>
+    requires well { WellFormed (tables store.now) }
+    requires used { function.0 < store.now.counts.functions }
+    ensures { Tallied result (walk_counts depth (view (tables store.now)) function.0) }
+{
     if depth == 0 {
         return Some(NOTHING);
     }
-    let row = store.function(function)?;
+    let count = store.functions[function.0 as usize].blocks.count;
+    let mut sum = function_tally(store, function)?;
+    for k in 0..count {
+        let list = block_list(store, function, k);
+        sum = plus(sum, inner_tally(store, list, depth - 1)?)?;
+    }
+    Some(sum)
+}
+
+// The walks from the inner functions of a list's rows.
+#[cycle(walk_tally)]
+fn inner_tally(store: &Store<'_>, list: &[u32], depth: u32) -> Option<Tally>
+    requires well { WellFormed (tables store.now) }
+    requires listed { AllByRecursion (λ n. n < store.now.counts.instructions) list.now }
+    ensures { Tallied result (walks_counts depth (view (tables store.now)) (inner (instructions_at (rows (tables store.now)) list.now))) }
+{
     let mut sum = NOTHING;
-    for block in store.blocks_of(row.blocks)? {
-        let list = store.numbers_of(block.instructions)?;
-        if row.fn_type != 0 {
-            sum = plus(sum, block_tally(store, list)?)?;
-        }
-        for k in 0..list.len() {
-            let instruction = store.instruction(InstructionId(list[list.len() - 1 - k]))?;
-            if instruction.kind == 31 {
-                sum = plus(sum, walk_tally(store, instruction.function, depth - 1)?)?;
-            }
+    for k in 0..list.len() {
+        let row = listed_row(store, list, k);
+        if row.kind == 31 {
+            sum = plus(sum, walk_tally(store, row.function, depth)?)?;
         }
     }
     Some(sum)
 }
 
-fn block_tally(store: &Store<'_>, list: &[u32]) -> Option<Tally> {
-    let mut sum = NOTHING;
-    for number in list {
-        let row = store.instruction(InstructionId(*number))?;
-        if row.kind == 16 {
-            sum = plus(sum, element_tally(store, row)?)?;
-        }
+fn function_tally(store: &Store<'_>, function: FunctionId) -> Option<Tally>
+    requires well { WellFormed (tables store.now) }
+    requires used { function.0 < store.now.counts.functions }
+    ensures { Tallied result (function_counts (function_at (view (tables store.now)) function.0)) }
+{
+    let row = store.functions[function.0 as usize];
+    if row.fn_type == 0 {
+        return Some(NOTHING);
     }
-    let pairs = sum.elements / 2;
-    let listed = if sum.elements >= 2 {
-        (list.len() as u64).checked_add(pairs)?
-    } else {
-        0
-    };
+    let mut sum = NOTHING;
+    for k in 0..row.blocks.count {
+        sum = plus(sum, block_tally(store, block_list(store, function, k))?)?;
+    }
+    Some(sum)
+}
+
+fn block_tally(store: &Store<'_>, list: &[u32]) -> Option<Tally>
+    requires readable { Readable (tables store.now) }
+    requires listed { AllByRecursion (λ n. n < store.now.counts.instructions) list.now }
+    ensures { Tallied result (block_counts (instructions_at (rows (tables store.now)) list.now)) }
+{
+    let sum = rows_tally(store, list)?;
+    plus(sum, halved(sum.elements, list.len() as u64)?)
+}
+
+// The groups that there can be among so many elements, and the new list's rows.
+fn halved(elements: u64, rows: u64) -> Option<Tally>
+    ensures { Tallied result (halved elements rows) }
+{
+    let pairs = elements / 2;
+    if elements < 2 {
+        return Some(Tally { pairs, ..NOTHING });
+    }
     Some(Tally {
         pairs,
-        listed,
-        ..sum
+        listed: rows.checked_add(pairs)?,
+        ..NOTHING
     })
 }
 
-fn element_tally(store: &Store<'_>, row: &Instruction) -> Option<Tally> {
+fn rows_tally(store: &Store<'_>, list: &[u32]) -> Option<Tally>
+    requires readable { Readable (tables store.now) }
+    requires listed { AllByRecursion (λ n. n < store.now.counts.instructions) list.now }
+    ensures { Tallied result (rows_counts (instructions_at (rows (tables store.now)) list.now)) }
+{
+    let mut sum = NOTHING;
+    for k in 0..list.len() {
+        sum = plus(sum, row_tally(store, list, k)?)?;
+    }
+    Some(sum)
+}
+
+fn row_tally(store: &Store<'_>, list: &[u32], k: usize) -> Option<Tally>
+    requires readable { Readable (tables store.now) }
+    requires listed { AllByRecursion (λ n. n < store.now.counts.instructions) list.now }
+    requires within { k < length list.now }
+    ensures { Tallied result (row_counts (instruction_at (rows (tables store.now)) (slice_index list.now k))) }
+{
+    if listed_row(store, list, k).kind != 16 {
+        return Some(NOTHING);
+    }
+    element_tally(row_places(store, InstructionId(list[k])))
+}
+
+// An element with these places.
+fn element_tally(places: &[Place]) -> Option<Tally>
+    ensures { Tallied result (plus one_element (places_counts places.now)) }
+{
     let mut sum = Tally {
         elements: 1,
         ..NOTHING
     };
-    for place in store.places_of(row.places)? {
-        if place.role == 2 {
-            sum.attributes = sum.attributes.checked_add(1)?;
-            if let Some(name) = place.name {
-                sum.letters = sum.letters.checked_add(name.len as u64)?;
-            }
-        } else if place.role == 4 {
-            sum.children = sum.children.checked_add(1)?;
-        }
+    for place in places {
+        sum = plus(sum, place_tally(place))?;
     }
     Some(sum)
+}
+
+// An attribute, with the bytes of its name, a child, or neither.
+fn place_tally(place: &Place) -> Tally
+    ensures { counts_of result ≡ place_counts place.now }
+{
+    let role = place.role;
+    if role == 2 {
+        return Tally {
+            attributes: 1,
+            letters: letters(place.name),
+            ..NOTHING
+        };
+    }
+    if role == 4 {
+        return Tally {
+            children: 1,
+            ..NOTHING
+        };
+    }
+    NOTHING
+}
+
+// The bytes of a name.
+fn letters(name: Option<Name>) -> u64
+    ensures { result ≡ letters_in name }
+{
+    match name {
+        Some(name) => name.len as u64,
+        None => 0,
+    }
 }
 
 // What a tally allows, unless some number of it passes 64 bits.
