@@ -1,3 +1,4 @@
 pub mod Sums
 pub mod Elements
 pub mod Nexts
+pub mod Functions
