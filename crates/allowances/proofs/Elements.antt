@@ -1,5 +1,5 @@
 -- An element counts what its places count.
-use Rattle.std.proofs.Common.{◌≡◌, ℕ, suc, ◌+◌, false, true, ◌≢◌, eqb, List, [], ◌∷◌, map, length, Some, None, Option, refl, sym, ap, ◌∙◌, inl, inr, arith}
+use Rattle.std.proofs.Common.{◌≡◌, ℕ, false, true, ◌≢◌, eqb, List, [], ◌∷◌, map, length, Some, None, Option, refl, sym, ap, ◌∙◌, inl, inr, arith}
 use Rattle.std.specs.List.{AllByRecursion}
 use Rattle.std.proofs.lemmas.Bool.{cases_Bool, eqb-true, eq-eqb}
 use Rattle.std.proofs.lemmas.Bool.Decides.{eqb_tells}
@@ -20,7 +20,7 @@ use Rattle.hir.specs.WellFormed.{NameIfFits, PlaceFits, Readable}
 use Rattle.hir.proofs.Growth.{sizes_are}
 use Rattle.hir.proofs.Runs.{length_run}
 use Rattle.allowances.specs.Places.{letters_in, one_element, one_attribute, one_child, place_counts, places_counts}
-use Rattle.allowances.proofs.Sums.{Same, same_counts, same_numbers}
+use Rattle.allowances.proofs.Sums.{same_counts, same_numbers}
 
 -- what an element of these places counts
 abbrev pub of_places : List PlaceV → Counts

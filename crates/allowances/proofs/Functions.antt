@@ -3,7 +3,7 @@ use Rattle.std.proofs.Common.{◌≡◌, ℕ, ◌<◌, false, ◌≢◌, get_or,
 use Rattle.std.proofs.lemmas.Bool.Decides.{eqb_tells}
 use Rattle.rules.specs.Views.{FunctionV, function_at}
 use Rattle.rules.proofs.Steps.{pick_false}
-use Rattle.laws.specs.Allowances.{Counts, blocks_counts, function_counts, no_counts}
+use Rattle.laws.specs.Allowances.{blocks_counts, function_counts, no_counts}
 use Rattle.hir.specs.Tables.{Tables}
 use Rattle.hir.specs.View.{null_function, view}
 use Rattle.hir.specs.WellFormed.{WellFormed}

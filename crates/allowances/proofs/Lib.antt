@@ -3,3 +3,4 @@ pub mod Elements
 pub mod Nexts
 pub mod Functions
 pub mod Walks
+pub mod Rooms

@@ -1,5 +1,5 @@
 -- What is left of a list, its next element apart.
-use Rattle.std.proofs.Common.{◌≡◌, ℕ, zero, suc, ◌+◌, ◌<◌, Bool, true, false, List, [], ◌∷◌, ◌++◌, length, get_or, drop, sym, refl, ap, ◌∙◌, arith, add-one, inl, inr}
+use Rattle.std.proofs.Common.{◌≡◌, ℕ, zero, suc, ◌+◌, ◌<◌, List, [], ◌∷◌, length, get_or, drop, sym, refl, ap, ◌∙◌, arith, add-one}
 use Rattle.std.proofs.lemmas.List.{at_drop_more}
 use Rattle.rules.specs.Views.{BlockV, block_rows}
 use Rattle.laws.specs.Allowances.{Counts, plus, row_counts, rows_counts, block_counts, blocks_counts}

@@ -15,6 +15,9 @@ use Rattle.hir.specs.View.{Rows, instruction_at, instruction_view, instructions_
 use Rattle.allowances.specs.Tallies.{walks_counts}
 use Rattle.allowances.proofs.Sums.{plus_assoc, plus_comm, none_plus}
 
+abbrev pub blocks_of : Hir → ℕ → List BlockV
+blocks_of h f = (function_at h f).blocks
+
 tally_both : (c : ℕ → Counts) (xs ys : List ℕ) → tally c (xs ++ ys) ≡ plus (tally c xs) (tally c ys)
 tally_both c [] ys = sym (none_plus (tally c ys))
 tally_both c (x ∷ xs) ys = ap (plus (c x)) (tally_both c xs ys) ∙ sym (plus_assoc (c x) (tally c xs) (tally c ys))

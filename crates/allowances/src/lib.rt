@@ -9,6 +9,7 @@ ghost use Rattle.laws.specs.Allowances.{block_counts, function_counts, halved, p
 ghost use Rattle.hir.specs.Tables.{tables};
 ghost use Rattle.hir.specs.View.{instruction_at, instructions_at, rows, view};
 ghost use Rattle.hir.specs.WellFormed.{Readable, Room, WellFormed};
+ghost use Rattle.refusals.specs.Conditions.{Spare};
 ghost use Rattle.allowances.specs.Places.{letters_in, one_element, place_counts, places_counts};
 ghost use Rattle.allowances.specs.Rooms.{Allowable, Allowed, HasRoom};
 ghost use Rattle.allowances.specs.Tallies.{counts_of, Tallied, walks_counts};
@@ -274,4 +275,20 @@ pub fn spare(store: &Store<'_>, a: Allowances) -> bool
             store.functions.len(),
             1024,
         )
+}
+
+// There are as many spare rows as the walk from a function may take.
+pub fn enough_spare(store: &Store<'_>, function: FunctionId, depth: u32) -> bool
+    requires well { WellFormed (tables store.now) }
+    requires used { function.0 < store.now.counts.functions }
+    ensures { MatchBool result (Spare (tables store.now) (walk_counts depth (view (tables store.now)) function.0)) (Spare (tables store.now) (walk_counts depth (view (tables store.now)) function.0) → ⊥) }
+{
+    let tally = match walk_tally(store, function, depth) {
+        Some(tally) => tally,
+        None => return false,
+    };
+    match allowances_of(tally) {
+        Some(allowed) => spare(store, allowed),
+        None => false,
+    }
 }

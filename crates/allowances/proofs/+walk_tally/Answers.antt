@@ -1,5 +1,4 @@
-use Rattle.std.proofs.Common.{◌≡◌, ◌+◌, ◌-◌, ◌<◌, ◌≤◌, length, drop, sym, refl, ap, ◌∙◌, subst, arith}
-use Rattle.std.proofs.lemmas.List.{at_drop_all}
+use Rattle.std.proofs.Common.{◌≡◌, ◌+◌, ◌-◌, ◌<◌, length, drop, sym, refl, ap, ◌∙◌, subst, arith}
 use Rattle.rules.specs.Views.{Hir, function_at}
 use Rattle.rules.specs.Drawn.{inner, inner_of}
 use Rattle.laws.specs.Allowances.{Counts, function_counts, plus, walk_counts}
@@ -8,7 +7,7 @@ use Rattle.hir.specs.View.{instructions_at, rows, view}
 use Rattle.refusals.proofs.Blocks.{blocks_counted}
 use Rattle.allowances.specs.Tallies.{counts_of, Tallied, walks_counts}
 use Rattle.allowances.proofs.Sums.{one_more, sum_given_up, one_given_up, all_summed}
-use Rattle.allowances.proofs.Walks.{next_inner, no_inner, next_walks, no_blocks, whole_walk}
+use Rattle.allowances.proofs.Walks.{blocks_of, next_inner, no_inner, next_walks, no_blocks, whole_walk}
 use Rattle.allowances.proofs.+walk_tally.Goals as goal
 use Rattle.allowances.proofs.+walk_tally.Goals.{inner_tally-then-row-eq31+in_ok-walk_tally+in_ok-sum, inner_tally-else-row-eq31}
 
@@ -66,7 +65,7 @@ walk_tally-returns-in_err-inner_tally m c =
     let h : Hir = view t in
     let d = c.args.depth - 1 in
     let f = c.args.function.0 in
-    let bs = (function_at h f).blocks in
+    let bs = blocks_of h f in
     let k = c.loop-k.k in
     let x : Counts = walks_counts d h (inner (instructions_at (rows t) c.block_list-list.result.now)) in
     let l : k < length bs = omega (arith, blocks_counted t c.requires.well f c.requires.used) in
@@ -80,7 +79,7 @@ walk_tally-returns-in_err-sum-2 m c =
     let h : Hir = view t in
     let d = c.args.depth - 1 in
     let f = c.args.function.0 in
-    let bs = (function_at h f).blocks in
+    let bs = blocks_of h f in
     let k = c.loop-k.k in
     let x = counts_of c.in_ok-inner_tally.field-0 in
     let l : k < length bs = omega (arith, blocks_counted t c.requires.well f c.requires.used) in
@@ -94,7 +93,7 @@ walk_tally-loop-k-preserved m c =
     let h : Hir = view t in
     let d = c.args.depth - 1 in
     let f = c.args.function.0 in
-    let bs = (function_at h f).blocks in
+    let bs = blocks_of h f in
     let k = c.loop-k.k in
     let x = counts_of c.in_ok-inner_tally.field-0 in
     let l : k < length bs = omega (arith, blocks_counted t c.requires.well f c.requires.used) in
@@ -107,7 +106,7 @@ walk_tally-returns m c =
     let h : Hir = view t in
     let d = c.args.depth - 1 in
     let f = c.args.function.0 in
-    let bs = (function_at h f).blocks in
+    let bs = blocks_of h f in
     all_summed (counts_of c.loop-k.sum) (walks_counts d h (inner_of (drop c.loop-k.k bs))) (plus (function_counts (function_at h f)) (walks_counts d h (inner_of bs)))
     (no_blocks d h bs c.loop-k.k (omega (arith, blocks_counted t c.requires.well f c.requires.used))) c.loop-k.invariant
     ∙ whole_walk c.args.depth h f (omega arith)

@@ -2,8 +2,8 @@ use Rattle.std.proofs.Common.{get_or, subst}
 use Rattle.laws.specs.Allowances.{Counts}
 use Rattle.hir.specs.Tables.{tables}
 use Rattle.hir.specs.View.{instruction_at, rows}
-use Rattle.allowances.specs.Tallies.{counts_of, Tallied}
-use Rattle.allowances.proofs.Elements.{element_counted, no_element}
+use Rattle.allowances.specs.Tallies.{Tallied}
+use Rattle.allowances.proofs.Elements.{element_counted}
 use Rattle.allowances.proofs.row_tally.Goals as goal
 
 pub returns : goal.returns
