@@ -84,7 +84,7 @@ pub fn walk_tally(store: &Store<'_>, function: FunctionId, depth: u32) -> Option
     Some(sum)
 }
 
-// The walks from the inner functions of a list's rows.
+// The walks from the inner functions of a list's rows. The outline goes from the last row to the first; the sum is the same.
 #[cycle(walk_tally)]
 fn inner_tally(store: &Store<'_>, list: &[u32], depth: u32) -> Option<Tally>
     requires well { WellFormed (tables store.now) }
@@ -210,7 +210,7 @@ fn letters(name: Option<Name>) -> u64
     }
 }
 
-// What a tally allows, unless some number of it passes 64 bits.
+// What a tally allows of each table. None only where an allowance passes 64 bits.
 pub fn allowances_of(t: Tally) -> Option<Allowances>
     ensures { MatchOption result (Allowable (counts_of t) → ⊥) (λ a. Allowed (counts_of t) a) }
 {
