@@ -1,14 +1,13 @@
 -- An element counts what its places count.
-use Rattle.std.proofs.Common.{◌≡◌, ℕ, false, true, ◌≢◌, eqb, List, [], ◌∷◌, map, length, Some, None, Option, refl, sym, ap, ◌∙◌, inl, inr, arith}
+use Rattle.std.proofs.Common.{◌≡◌, ℕ, false, true, eqb, List, [], ◌∷◌, map, length, Some, None, Option, refl, sym, ap, ◌∙◌, inl, inr, arith}
 use Rattle.std.specs.List.{AllByRecursion}
 use Rattle.std.proofs.lemmas.Bool.{cases_Bool, eqb-true, eq-eqb}
-use Rattle.std.proofs.lemmas.Bool.Decides.{eqb_tells}
 use Rattle.rules.specs.Lists.{select}
 use Rattle.rules.specs.Kinds.{jsx_kind}
 use Rattle.rules.specs.Names.{spell}
 use Rattle.rules.specs.Views.{Bytes, PlaceV, InstructionV, is_element, role_is}
 use Rattle.rules.proofs.Steps.{pick_true, pick_false}
-use Rattle.laws.specs.Allowances.{Counts, no_counts, plus, letters_of, element_counts, row_counts}
+use Rattle.laws.specs.Allowances.{Counts, no_counts, plus, letters_of, row_counts}
 use Rattle.laws.proofs.Counting.{row_yes}
 use Rattle.hir.specs.declared.rows.Name.{Name}
 use Rattle.hir.specs.declared.rows.Place.{Place}
@@ -76,6 +75,3 @@ pub element_counted : (t : Tables) → Readable t → (i : InstructionV) (x : In
 element_counted t w i x ps e k s f =
     let n : t.counts.text ≡ length (view t).text = sym (ap (λ (c : Used). c.text) (sizes_are t w.counted)) in
     sym (places_seen (view t).text t.counts n ps f) ∙ ap of_places s ∙ sym (row_yes i (ap is_element e ∙ eq-eqb x.kind jsx_kind k))
-
-pub no_element : (t : Tables) (i : InstructionV) (x : Instruction) → i ≡ instruction_view (rows t) x → x.kind ≢ jsx_kind → no_counts ≡ row_counts i
-no_element t i x e k = sym (pick_false (is_element i) (element_counts i) no_counts (ap is_element e ∙ elim (eqb_tells x.kind jsx_kind) as (λ _. eqb x.kind jsx_kind ≡ false) [ inl y ↦ absurd (k y.1) | inr n ↦ n.0 ]))

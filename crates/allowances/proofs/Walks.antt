@@ -1,5 +1,5 @@
 -- The walks from some functions, counted one after another.
-use Rattle.std.proofs.Common.{◌≡◌, ℕ, zero, suc, ◌+◌, ◌-◌, ◌<◌, ◌≤◌, true, false, ◌≢◌, eqb, List, [], ◌∷◌, ◌++◌, length, get_or, drop, sym, refl, ap, ◌∙◌, inl, inr, arith, add-one, sub-one}
+use Rattle.std.proofs.Common.{◌≡◌, ℕ, zero, suc, ◌+◌, ◌-◌, ◌<◌, ◌≤◌, true, false, ◌≢◌, eqb, List, [], ◌∷◌, ◌++◌, length, get_or, drop, sym, refl, ap, ◌∙◌, inl, inr, arith, sub-one}
 use Rattle.std.proofs.lemmas.List.{at_drop_more, drop_all}
 use Rattle.std.proofs.lemmas.Bool.{cases_Bool, eq-eqb}
 use Rattle.std.proofs.lemmas.Bool.Decides.{eqb_tells}
@@ -12,6 +12,7 @@ use Rattle.rules.proofs.Steps.{pick_true, pick_false}
 use Rattle.laws.specs.Allowances.{Counts, no_counts, plus, function_counts, tally, walk_counts}
 use Rattle.hir.specs.declared.rows.Instruction.{Instruction}
 use Rattle.hir.specs.View.{Rows, instruction_at, instruction_view, instructions_at}
+use Rattle.refusals.proofs.Blocks.{block_first}
 use Rattle.allowances.specs.Tallies.{walks_counts}
 use Rattle.allowances.proofs.Sums.{plus_assoc, plus_comm, none_plus}
 
@@ -27,11 +28,6 @@ inner_yes i is h = pick_true (is_function i) (i.function ∷ inner is) (inner is
 
 inner_no : (i : InstructionV) (is : List InstructionV) → is_function i ≡ false → inner (i ∷ is) ≡ inner is
 inner_no i is h = pick_false (is_function i) (i.function ∷ inner is) (inner is) h
-
-first_inner : (bs : List BlockV) (k : ℕ) → k < length bs → inner_of (drop k bs) ≡ inner (backwards (block_rows bs k)) ++ inner_of (drop (k + 1) bs)
-first_inner [] k h = absurd (omega arith)
-first_inner (b ∷ bs) zero h = refl
-first_inner (b ∷ bs) (suc k) h = rw add-one (rw add-one at (first_inner bs k (omega arith)))
 
 module _ (d : ℕ) (h : Hir) where
   walks_both : (xs ys : List ℕ) → walks_counts d h (xs ++ ys) ≡ plus (walks_counts d h xs) (walks_counts d h ys)
@@ -84,7 +80,7 @@ module _ (d : ℕ) (h : Hir) where
   pub next_walks : (bs : List BlockV) (k : ℕ) (y : Counts) → k < length bs → y ≡ walks_counts d h (inner (block_rows bs k)) → walks_counts d h (inner_of (drop k bs)) ≡ plus y (walks_counts d h (inner_of (drop (k + 1) bs)))
   next_walks bs k y l e =
       let rest = walks_counts d h (inner_of (drop (k + 1) bs)) in
-      ap (walks_counts d h) (first_inner bs k l) ∙ walks_both (inner (backwards (block_rows bs k))) (inner_of (drop (k + 1) bs)) ∙ ap (λ (x : Counts). plus x rest) (rows_back (block_rows bs k) ∙ sym e)
+      ap (walks_counts d h) (block_first bs k l) ∙ walks_both (inner (backwards (block_rows bs k))) (inner_of (drop (k + 1) bs)) ∙ ap (λ (x : Counts). plus x rest) (rows_back (block_rows bs k) ∙ sym e)
 
   pub no_blocks : (bs : List BlockV) (k : ℕ) → length bs ≤ k → walks_counts d h (inner_of (drop k bs)) ≡ no_counts
   no_blocks bs k l = ap (λ (cs : List BlockV). walks_counts d h (inner_of cs)) (drop_all k bs l)

@@ -17,6 +17,7 @@ ghost use Rattle.allowances.specs.Tallies.{counts_of, Tallied, walks_counts};
 use hir::{FunctionId, InstructionId, Name, Place, Store};
 use listed_rows::listed_row;
 use reading::{block_list, row_places};
+use store_form::has_room;
 
 // What is counted outside Components: attributes, children, elements, the elements of each block halved, the rows of new lists, and the
 // bytes of attribute names.
@@ -240,36 +241,27 @@ pub fn allowances_of(t: Tally) -> Option<Allowances>
     })
 }
 
-fn fits(used: u32, allowed: u64, rows: usize, limit: u64) -> bool
-    ensures { MatchBool result (Room used allowed rows limit) (Room used allowed rows limit → ⊥) }
-{
-    match (used as u64).checked_add(allowed) {
-        Some(sum) => sum <= rows as u64 && sum <= limit,
-        None => false,
-    }
-}
-
 // There are as many spare rows in each table.
 pub fn spare(store: &Store<'_>, a: Allowances) -> bool
     ensures { MatchBool result (HasRoom (tables store.now) a) (HasRoom (tables store.now) a → ⊥) }
 {
-    fits(store.counts.text, a.text, store.text.len(), 1048576)
-        && fits(
+    has_room(store.counts.text, a.text, store.text.len(), 1048576)
+        && has_room(
             store.counts.identifiers,
             a.identifiers,
             store.identifiers.len(),
             65535,
         )
-        && fits(store.counts.places, a.places, store.places.len(), 262144)
-        && fits(
+        && has_room(store.counts.places, a.places, store.places.len(), 262144)
+        && has_room(
             store.counts.instructions,
             a.instructions,
             store.instructions.len(),
             65535,
         )
-        && fits(store.counts.numbers, a.numbers, store.numbers.len(), 262144)
-        && fits(store.counts.blocks, a.blocks, store.blocks.len(), 16384)
-        && fits(
+        && has_room(store.counts.numbers, a.numbers, store.numbers.len(), 262144)
+        && has_room(store.counts.blocks, a.blocks, store.blocks.len(), 16384)
+        && has_room(
             store.counts.functions,
             a.functions,
             store.functions.len(),

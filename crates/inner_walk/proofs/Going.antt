@@ -9,20 +9,16 @@ use Rattle.std.proofs.lemmas.Bool.{eq-eqb}
 use Rattle.std.proofs.lemmas.Bool.Decides.{eqb_tells}
 use Rattle.rules.specs.Kinds.{function_expression_kind}
 use Rattle.rules.specs.Views.{InstructionV, BlockV, FunctionV, Hir, function_at, is_function, block_rows}
-use Rattle.rules.proofs.Membership.{In, in_head}
+use Rattle.rules.proofs.Membership.{In, in_head, gathered-++}
 use Rattle.rules.specs.Drawn.{inner, inner_of, on_walk}
 use Rattle.hir.specs.declared.rows.Instruction.{Instruction}
 use Rattle.hir.specs.Tables.{Tables}
 use Rattle.hir.specs.View.{Rows, instruction_at, instruction_view, instructions_at, null_function, view}
 use Rattle.hir.specs.WellFormed.{WellFormed}
-use Rattle.refusals.proofs.Blocks.{function_is}
+use Rattle.refusals.proofs.Blocks.{function_is, block_first}
 use Rattle.refusals.specs.Walked.{NoDeeper}
 use Rattle.inner_walk.specs.Passing.{Passable, Passed, Walkable, Walks}
 use Rattle.inner_walk.proofs.Joined.{able_first, able_rest, joined, one}
-
-gathered-++ : {A B : Type 0} (f : A → List B) (xs ys : List A) → gathered f (xs ++ ys) ≡ gathered f xs ++ gathered f ys
-gathered-++ f [] ys = refl
-gathered-++ f (x ∷ xs) ys = ap (λ zs. f x ++ zs) (gathered-++ f xs ys) ∙ sym (append_assoc (f x) (gathered f xs) (gathered f ys))
 
 all_left : {A : Type 0} (P : A → Type 0) (xs ys : List A) → AllByRecursion P (xs ++ ys) → AllByRecursion P xs
 all_left P [] ys a = tt
@@ -107,11 +103,6 @@ no_inner r h f k j list x l e t =
     (ap (λ zs. inner (backwards zs)) (mapped_take r list j l) ∙ ap inner (last_first is i) ∙ inner_cons false i (backwards is) (ap is_function e ∙ t))
 
 -- a block begins with all of its rows left
-block_first : (bs : List BlockV) (k : ℕ) → k < length bs → inner_of (drop k bs) ≡ inner (backwards (block_rows bs k)) ++ inner_of (drop (k + 1) bs)
-block_first [] k h = absurd (omega arith)
-block_first (b ∷ bs) zero h = refl
-block_first (b ∷ bs) (suc k) h = rw add-one (rw add-one at (block_first bs k (omega arith)))
-
 pub block_begins : (r : Rows) (h : Hir) (f k : ℕ) (list : List ℕ) → k < length (function_at h f).blocks → instructions_at r list ≡ block_rows (function_at h f).blocks k → inner_of (drop k (function_at h f).blocks) ≡ left_of r h f k list (length list)
 block_begins r h f k list l e =
     block_first (function_at h f).blocks k l

@@ -1,15 +1,10 @@
 -- Functions passed one after another.
 use Rattle.std.proofs.Common.{◌≡◌, ℕ, ◌<◌, false, List, [], ◌∷◌, ◌++◌, length, get_or, set, sym, refl, subst, inl, inr, arith, get_or-set_other, get_or-set_same}
-use Rattle.std.proofs.lemmas.Bool.{both_ways, cases_eq, eqb-true, or_cases}
-use Rattle.rules.specs.Lists.{Distinct}
+use Rattle.std.proofs.lemmas.Bool.{cases_eq}
 use Rattle.rules.specs.Views.{Hir, function_at}
-use Rattle.rules.proofs.Membership.{In, in_out, in_cases, in_left, in_right, in_head, out_if, distinct_left, distinct_right, distinct_apart}
+use Rattle.rules.proofs.Membership.{In, in_out, in_cases, in_left, in_right, in_head, distinct_left, distinct_right, distinct_apart}
+use Rattle.refusals.proofs.Distinct.{distinct_join, alone}
 use Rattle.inner_walk.specs.Passing.{Passable, Passed}
-
-distinct_join : (xs ys : List ℕ) → Distinct xs → Distinct ys → ((x : ℕ) → In x xs → In x ys → ⊥) → Distinct (xs ++ ys)
-distinct_join [] ys d e a = e
-distinct_join (x ∷ xs) ys d e a =
-    (out_if x (xs ++ ys) (λ i. elim (in_cases x xs ys i) [ inl l ↦ in_out x xs l d.0 | inr r ↦ a x (in_head x xs) r ]), distinct_join xs ys d.1 e (λ y i. a y (in_right y (x ∷ []) xs i)))
 
 -- the first functions can be passed, and then the rest
 pub able_first : (h : Hir) (fs gs ms : List ℕ) → Passable h (fs ++ gs) ms → Passable h fs ms
@@ -45,10 +40,6 @@ joined h fs gs ms ns os p q = record {
     | inr r ↦ inr (in_right x fs gs r)
   ];
 }
-
--- in a list of one
-alone : (x f : ℕ) → In x (f ∷ []) → x ≡ f
-alone x f i = elim (or_cases _ _ i) [ inl e ↦ eqb-true x f e | inr e ↦ absurd (both_ways false refl e) ]
 
 -- one function
 pub one : (h : Hir) (f : ℕ) (ms : List ℕ) → f < length ms → (function_at h f).appended ≡ false → get_or ms f 0 ≡ 0 → Passed h (f ∷ []) ms (set ms f 1)

@@ -1,5 +1,5 @@
 -- Blocks marked one after another.
-use Rattle.std.proofs.Common.{◌≡◌, ℕ, zero, suc, ◌+◌, ◌<◌, ◌≤◌, List, [], ◌∷◌, ◌++◌, length, get_or, take, drop, sym, refl, ap, ◌∙◌, subst, inl, inr, append_assoc, append-nil, add-one, arith}
+use Rattle.std.proofs.Common.{◌≡◌, ℕ, zero, suc, ◌+◌, ◌<◌, ◌≤◌, List, [], ◌∷◌, ◌++◌, length, get_or, take, drop, sym, refl, ap, ◌∙◌, subst, inl, inr, append_assoc, append-nil, add-one, arith, take_all}
 use Rattle.std.proofs.lemmas.Bool.{cases_Bool}
 use Rattle.rules.specs.Lists.{within, gathered, Distinct}
 use Rattle.rules.specs.Views.{BlockV, FunctionV, writes, rows_of, block_rows}
@@ -7,7 +7,7 @@ use Rattle.rules.specs.Drawn.{Ordered, OrderedBlocks}
 use Rattle.refusals.specs.Walked.{WritesSound}
 use Rattle.read_write.specs.Written.{Markable, Marked, RowsSound, RowsDone}
 use Rattle.read_write.proofs.Marks.{none, then_after, able_left, able_after, wider}
-use Rattle.read_write.proofs.RowMarks.{gathered-++}
+use Rattle.rules.proofs.Membership.{gathered-++}
 
 -- the rows of the blocks before k, of block k, and of those after it
 rows_before : (bs : List BlockV) (k : ℕ) → k < length bs → rows_of (take (k + 1) bs) ≡ rows_of (take k bs) ++ block_rows bs k
@@ -29,12 +29,6 @@ ordered_at : (bs : List BlockV) (k : ℕ) → k < length bs → OrderedBlocks bs
 ordered_at [] k h o = absurd (omega arith)
 ordered_at (b ∷ bs) zero h o = o.0
 ordered_at (b ∷ bs) (suc k) h o = ordered_at bs k (omega arith) o.1
-
-take_all : (bs : List BlockV) (k : ℕ) → length bs ≤ k → take k bs ≡ bs
-take_all [] zero h = refl
-take_all [] (suc k) h = refl
-take_all (b ∷ bs) zero h = absurd (omega arith)
-take_all (b ∷ bs) (suc k) h = ap (λ zs. b ∷ zs) (take_all bs k (omega arith))
 
 -- the blocks before k
 pub record BlocksDone (base k : ℕ) (bs : List BlockV) (before now : List ℕ) : Type 0 where
@@ -70,5 +64,5 @@ block_refused base k g ms ns l low d u w =
 
 pub all_blocks_done : (base k : ℕ) (g : FunctionV) (ms ns : List ℕ) → length g.blocks ≤ k → BlocksDone base k g.blocks ms ns → WritesSound g
 all_blocks_done base k g ms ns l d =
-    let e = take_all g.blocks k l in
+    let e = take_all k g.blocks l in
     record { once = subst (λ bs. Distinct (gathered writes (rows_of bs))) e d.marked.able.once; ordered = subst OrderedBlocks e d.ordered }

@@ -1,17 +1,10 @@
 -- Identifiers marked one after another.
 use Rattle.std.proofs.Common.{◌≡◌, ℕ, ◌<◌, ◌≤◌, false, ◌⊎◌, List, [], ◌∷◌, ◌++◌, length, get_or, set, sym, refl, ◌∙◌, subst, inl, inr, arith, get_or-set_other, get_or-set_same}
-use Rattle.std.proofs.lemmas.Bool.{both_ways, cases_Bool, eqb-true, or_cases}
-use Rattle.rules.specs.Lists.{within, Distinct}
+use Rattle.std.proofs.lemmas.Bool.{both_ways, cases_Bool}
+use Rattle.rules.specs.Lists.{within}
 use Rattle.rules.proofs.Membership.{In, Out, in_out, in_cases, in_left, in_right, in_head, out_if, out_parts, distinct_left, distinct_right, distinct_apart}
+use Rattle.refusals.proofs.Distinct.{distinct_join, alone}
 use Rattle.read_write.specs.Written.{Markable, Marked}
-
-distinct_join : (xs ys : List ℕ) → Distinct xs → Distinct ys → ((x : ℕ) → In x xs → In x ys → ⊥) → Distinct (xs ++ ys)
-distinct_join [] ys d e a = e
-distinct_join (x ∷ xs) ys d e a =
-    (out_if x (xs ++ ys) (λ i. elim (in_cases x xs ys i) [ inl l ↦ in_out x xs l d.0 | inr r ↦ a x (in_head x xs) r ]), distinct_join xs ys d.1 e (λ y i. a y (in_right y (x ∷ []) xs i)))
-
-alone : (x y : ℕ) → In x (y ∷ []) → x ≡ y
-alone x y i = elim (or_cases _ _ i) [ inl e ↦ eqb-true x y e | inr e ↦ absurd (both_ways false refl e) ]
 
 -- nothing is marked
 pub none : (base low turn : ℕ) (ms : List ℕ) → Marked base low turn [] ms ms

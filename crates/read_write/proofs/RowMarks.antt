@@ -1,5 +1,5 @@
 -- Rows marked one after another, from the last to the first.
-use Rattle.std.proofs.Common.{◌≡◌, ℕ, ◌+◌, ◌-◌, ◌<◌, ◌≤◌, true, false, eqb, ◌≢◌, List, [], ◌∷◌, ◌++◌, map, length, get_or, take, drop, sym, refl, ap, ◌∙◌, subst, inl, inr, append_assoc, arith, take-append-drop}
+use Rattle.std.proofs.Common.{◌≡◌, ℕ, ◌+◌, ◌-◌, ◌<◌, ◌≤◌, true, false, eqb, ◌≢◌, List, [], ◌∷◌, ◌++◌, map, length, get_or, take, drop, sym, refl, ap, ◌∙◌, subst, inl, inr, arith, take-append-drop}
 use Rattle.std.proofs.lemmas.List.{at_drop_more}
 use Rattle.std.proofs.lemmas.Bool.{eq-eqb}
 use Rattle.std.specs.List.{AllByRecursion}
@@ -8,8 +8,8 @@ use Rattle.std.proofs.lemmas.Bool.Decides.{eqb_tells}
 use Rattle.rules.specs.Kinds.{phi_kind}
 use Rattle.rules.specs.Lists.{select, gathered}
 use Rattle.rules.specs.Views.{Bytes, InstructionV, reads, writes, identifiers_of, is_read, is_written}
-use Rattle.rules.specs.Drawn.{Ordered}
-use Rattle.rules.proofs.Membership.{In, Out, in_out, out_if, in_cases, out_parts}
+use Rattle.rules.proofs.Membership.{In, Out, in_out, out_if, in_cases, out_parts, gathered-++}
+use Rattle.rules.proofs.Sublists.{ordered_right}
 use Rattle.hir.specs.declared.rows.Counts.{Counts}
 use Rattle.hir.specs.declared.rows.Place.{Place}
 use Rattle.hir.specs.declared.rows.Instruction.{Instruction}
@@ -18,13 +18,10 @@ use Rattle.hir.specs.WellFormed.{PlaceFits}
 use Rattle.refusals.specs.Walked.{is_phi}
 use Rattle.read_write.specs.Written.{written_in, read_in, Markable, Marked, Unnumbered, RowSound, RowDone, RowsSound, RowsDone}
 use Rattle.read_write.proofs.PlaceMarks.{writes_are, reads_are}
-use Rattle.read_write.proofs.Marks.{none, then_after, then_before, able_left, able_right, able_after, able_before}
+use Rattle.read_write.proofs.Marks.{none, then_after, then_before, able_right, able_after, able_before}
 
 -- A row that writes a and then bs, and reads rs.
 module _ (base turn a : ℕ) (above : base < turn) (i : InstructionV) (bs rs : List ℕ) (ew : writes i ≡ a ∷ bs) (er : reads i ≡ rs) where
-  pub result_refused : (ms : List ℕ) → (Markable base (a ∷ []) ms → ⊥) → RowSound base turn i ms → ⊥
-  result_refused ms u s = u (able_left base (a ∷ []) bs ms (subst (λ zs. Markable base zs ms) ew s.able))
-
   pub places_refused : (ms ns : List ℕ) → Marked base turn turn (a ∷ []) ms ns → (Markable base bs ns → ⊥) → RowSound base turn i ms → ⊥
   places_refused ms ns p u s = u (able_after base turn turn (a ∷ []) bs ms ns p (subst (λ zs. Markable base zs ms) ew s.able))
 
@@ -49,14 +46,6 @@ module _ (base turn a : ℕ) (above : base < turn) (i : InstructionV) (bs rs : L
       };
       marked = all_writes;
     }
-
-pub gathered-++ : {A B : Type 0} (f : A → List B) (xs ys : List A) → gathered f (xs ++ ys) ≡ gathered f xs ++ gathered f ys
-gathered-++ f [] ys = refl
-gathered-++ f (x ∷ xs) ys = ap (λ zs. f x ++ zs) (gathered-++ f xs ys) ∙ sym (append_assoc (f x) (gathered f xs) (gathered f ys))
-
-ordered_right : (is js : List InstructionV) → Ordered (is ++ js) → Ordered js
-ordered_right [] js o = o
-ordered_right (i ∷ is) js o = ordered_right is js o.1
 
 pub no_rows : (base turn : ℕ) (ms : List ℕ) → RowsDone base turn [] ms ms
 no_rows base turn ms = record { marked = none base turn turn ms; ordered = tt }

@@ -1,8 +1,10 @@
 -- What holds of every block of a function, block by block.
-use Rattle.std.proofs.Common.{◌≡◌, ℕ, zero, suc, ◌<◌, List, [], ◌∷◌, length, get_or, ap, ◌∙◌, subst, arith, get_or-take}
+use Rattle.std.proofs.Common.{◌≡◌, ℕ, zero, suc, ◌+◌, ◌<◌, List, [], ◌∷◌, ◌++◌, length, get_or, drop, refl, ap, ◌∙◌, subst, add-one, arith, get_or-take}
 use Rattle.std.specs.List.{AllByRecursion}
 use Rattle.std.proofs.lemmas.List.{get_or-map, length-map}
 use Rattle.std.proofs.ByRecursion.{All-get_or}
+use Rattle.rules.specs.Lists.{backwards}
+use Rattle.rules.specs.Drawn.{inner, inner_of}
 use Rattle.rules.specs.Views.{InstructionV, BlockV, FunctionV, no_function, function_at, block_rows, rows_at}
 use Rattle.hir.specs.declared.rows.Counts.{Counts}
 use Rattle.hir.specs.Tables.{Tables}
@@ -20,6 +22,12 @@ pub each_block : (P : List InstructionV → Type 0) (bs : List BlockV) → AllBy
 each_block P [] h k l = absurd (omega arith)
 each_block P (b ∷ bs) h zero l = h.0
 each_block P (b ∷ bs) h (suc k) l = each_block P bs h.1 k (omega arith)
+
+-- the inner functions of the first of the blocks that are left, and those of the others
+pub block_first : (bs : List BlockV) (k : ℕ) → k < length bs → inner_of (drop k bs) ≡ inner (backwards (block_rows bs k)) ++ inner_of (drop (k + 1) bs)
+block_first [] k h = absurd (omega arith)
+block_first (b ∷ bs) zero h = refl
+block_first (b ∷ bs) (suc k) h = rw add-one (rw add-one at (block_first bs k (omega arith)))
 
 -- a used function, as it is seen
 module _ (t : Tables) (w : WellFormed t) (f : ℕ) (used : f < t.counts.functions) where

@@ -1,4 +1,5 @@
 pub mod Tests
+pub mod Distinct
 pub mod Well
 pub mod Blocks
 pub mod Mapped

@@ -10,31 +10,40 @@ use hir::{Counts, FunctionId, Store};
 pub fn counts_fit(store: &Store<'_>) -> bool
     ensures { MatchBool result (Counted (tables store.now)) (Counted (tables store.now) → ⊥) }
 {
-    if !fits(store.counts.text, store.text.len(), 1048576) {
+    if !has_room(store.counts.text, 0, store.text.len(), 1048576) {
         return false;
     }
-    if !fits(store.counts.identifiers, store.identifiers.len(), 65535) {
+    if !has_room(store.counts.identifiers, 0, store.identifiers.len(), 65535) {
         return false;
     }
-    if !fits(store.counts.places, store.places.len(), 262144) {
+    if !has_room(store.counts.places, 0, store.places.len(), 262144) {
         return false;
     }
-    if !fits(store.counts.instructions, store.instructions.len(), 65535) {
+    if !has_room(
+        store.counts.instructions,
+        0,
+        store.instructions.len(),
+        65535,
+    ) {
         return false;
     }
-    if !fits(store.counts.numbers, store.numbers.len(), 262144) {
+    if !has_room(store.counts.numbers, 0, store.numbers.len(), 262144) {
         return false;
     }
-    if !fits(store.counts.blocks, store.blocks.len(), 16384) {
+    if !has_room(store.counts.blocks, 0, store.blocks.len(), 16384) {
         return false;
     }
-    fits(store.counts.functions, store.functions.len(), 1024)
+    has_room(store.counts.functions, 0, store.functions.len(), 1024)
 }
 
-fn fits(used: u32, rows: usize, limit: u32) -> bool
-    ensures { MatchBool result (Room used 0 rows limit) (Room used 0 rows limit → ⊥) }
+// There is room for so many rows more, in the table and below the limit.
+pub fn has_room(used: u32, more: u64, rows: usize, limit: u64) -> bool
+    ensures { MatchBool result (Room used more rows limit) (Room used more rows limit → ⊥) }
 {
-    used as usize <= rows && used <= limit
+    match (used as u64).checked_add(more) {
+        Some(sum) => sum <= rows as u64 && sum <= limit,
+        None => false,
+    }
 }
 
 // The function that was asked for is used, and not one that outlining added.

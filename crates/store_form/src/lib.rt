@@ -7,5 +7,5 @@ mod instructions;
 mod places;
 mod rows;
 
-pub use counts::{counts_fit, function_given};
+pub use counts::{counts_fit, function_given, has_room};
 pub use rows::rows_formed;

@@ -3,16 +3,10 @@ use Rattle.std.proofs.Common.{◌≡◌, ℕ, zero, suc, ◌+◌, ◌<◌, ◌�
 use Rattle.std.proofs.lemmas.Bool.{eq-eqb, ne_eqb, le-leb, lt-leb}
 use Rattle.std.proofs.lemmas.List.{at_drop_more}
 use Rattle.rules.specs.Lists.{any, select}
+use Rattle.rules.proofs.Steps.{pick_true, pick_false}
 use Rattle.hir.specs.declared.rows.Place.{Place}
 use Rattle.hir.specs.View.{null_place}
 use Rattle.sweep.specs.Marks.{is_marked, unmarked_one, unmarked, with_mark, with_marks, ids, ids_read, ids_written}
-
--- choosing by a test whose answer is known
-pub pick_true : {A : Type 0} (b : Bool) (x y : A) → b ≡ true → (elim b as (λ _. A) [ true ↦ x | false ↦ y ]) ≡ x
-pick_true {A} b x y e = ap (λ (t : Bool). elim t as (λ _. A) [ true ↦ x | false ↦ y ]) e
-
-pub pick_false : {A : Type 0} (b : Bool) (x y : A) → b ≡ false → (elim b as (λ _. A) [ true ↦ x | false ↦ y ]) ≡ y
-pick_false {A} b x y e = ap (λ (t : Bool). elim t as (λ _. A) [ true ↦ x | false ↦ y ]) e
 
 -- one more
 pub mark_new : (marks : List ℕ) (x : ℕ) → get_or marks x 0 ≡ 0 → set marks x 1 ≡ with_mark marks x

@@ -25,7 +25,7 @@ use Rattle.hir.proofs.Runs.{run_used, length_run, getD_run, covered}
 use Rattle.hir.proofs.Growth.{sizes_are}
 use Rattle.hir.proofs.Seen.{readable, row_fits, row_seen, places_read, places_fit}
 use Rattle.sweep.specs.Marks.{is_marked, ids, ids_read, ids_written, IdsFit, kept_by, row_kept, passed, all_passed, round_passed, terminals_marked, with_marks}
-use Rattle.sweep.proofs.Marking.{pick_true, pick_false}
+use Rattle.rules.proofs.Steps.{pick_true, pick_false}
 use Rattle.sweep.proofs.Settling.{InRange}
 
 module _ (text : Bytes) where

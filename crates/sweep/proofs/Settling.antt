@@ -9,7 +9,8 @@ use Rattle.rules.proofs.Membership.{In, in_cases, in_left, in_right, in_head, li
 use Rattle.rules.proofs.Sweeping.{round, round_cases, round_row, stable}
 use Rattle.dead_code_elimination.specs.Elimination.{Zero}
 use Rattle.sweep.specs.Marks.{is_marked, unmarked, with_mark, with_marks, kept_by, passed, all_passed, round_passed, terminals_marked, MarksNeeded}
-use Rattle.sweep.proofs.Marking.{pick_true, pick_false, one_less, is_marked_not, with_mark_long, with_marks_long}
+use Rattle.rules.proofs.Steps.{pick_true, pick_false}
+use Rattle.sweep.proofs.Marking.{one_less, is_marked_not, with_mark_long, with_marks_long}
 
 abbrev Marked : List ℕ → ℕ → Type 0
 Marked marks x = is_marked marks x ≡ true
