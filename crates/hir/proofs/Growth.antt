@@ -5,7 +5,7 @@ use Rattle.std.proofs.ByRecursion.{All-weaker, All-append}
 use Rattle.hir.specs.declared.rows.Name.{Name}
 use Rattle.hir.specs.declared.rows.Counts.{Counts}
 use Rattle.hir.specs.declared.rows.IdentifierName.{IdentifierName}
-use Rattle.hir.specs.declared.rows.IdentifierName.TheVariants.{Absent, Named, Promoted}
+use Rattle.hir.specs.declared.rows.IdentifierName.TheVariants.{Named, Promoted}
 use Rattle.hir.specs.declared.rows.Identifier.{Identifier}
 use Rattle.hir.specs.declared.rows.Place.{Place}
 use Rattle.hir.specs.declared.rows.Instruction.{Instruction}
@@ -48,10 +48,10 @@ module _ (c d : Counts) (m : More c d) where
   name_if_grows None h = h
   name_if_grows (Some n) h = name_grows n h
 
-  pub identifier_grows : (x : Identifier) (n : IdentifierName) → IdentifierNameFits c n → IdentifierNameFits d n
-  identifier_grows x Absent h = h
-  identifier_grows x (Named n) h = name_grows n h
-  identifier_grows x (Promoted n) h = name_grows n h
+  pub identifier_grows : (x : Identifier) (n : Option IdentifierName) → IdentifierNameFits c n → IdentifierNameFits d n
+  identifier_grows x None h = h
+  identifier_grows x (Some (Named n)) h = name_grows n h
+  identifier_grows x (Some (Promoted n)) h = name_grows n h
 
   pub place_grows : (p : Place) → PlaceFits c p → PlaceFits d p
   place_grows p h = record { name = name_if_grows p.name h.name; identifier = omega (arith, h.identifier, m.identifiers) }

@@ -1,5 +1,5 @@
 -- The view after each append, and that the store stays well formed.
-use Rattle.std.proofs.Common.{◌≡◌, ℕ, ◌+◌, Bool, true, false, ◌||◌, List, [], ◌∷◌, ◌++◌, length, get_or, sym, refl, ap, ◌∙◌, subst, append-nil, add-zero, arith, length-set}
+use Rattle.std.proofs.Common.{◌≡◌, ℕ, ◌+◌, Bool, true, false, ◌||◌, List, [], ◌∷◌, ◌++◌, length, get_or, Option, sym, refl, ap, ◌∙◌, subst, append-nil, add-zero, arith, length-set}
 use lib.Seq.{length-paste}
 use Rattle.std.specs.List.{AllByRecursion}
 use Rattle.std.proofs.lemmas.List.{take_more_set, length-map}
@@ -234,7 +234,7 @@ module _ (t : Tables) (w : WellFormed t) where
     well_function fit = sound_tables u_function s_function counted_function rows_function (sound_grown r s_function ext_function sound tt tt tt tt (function_grows (sizes r) (sizes s_function) (extends_more r s_function ext_function) x (subst (λ c. FunctionFits c x) sized fit.fits), tt) w.sound.blocks_apart (pairwise_push FunctionsApart r.functions x w.sound.functions_apart (λ i d h. let a = All-get_or (λ (g : HirFunction). FunctionsApart g x) r.functions i d h fit.apart in (a, clear_other_way (get_or r.functions i d).blocks x.blocks a))))
 
   -- a fresh identifier: its declaration number is its own
-  module _ (n : IdentifierName) (room : Room t.counts.identifiers 1 (length t.identifiers) identifiers_limit) where
+  module _ (n : Option IdentifierName) (room : Room t.counts.identifiers 1 (length t.identifiers) identifiers_limit) where
     abbrev pub fresh_row : Identifier
     fresh_row = record { declaration = t.counts.identifiers; name = n }
 

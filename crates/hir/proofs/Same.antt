@@ -11,7 +11,7 @@ use Rattle.rules.specs.Names.{same_name}
 use Rattle.hir.specs.declared.rows.Name.{Name}
 use Rattle.hir.specs.declared.rows.Run.{Run}
 use Rattle.hir.specs.declared.rows.IdentifierName.{IdentifierName}
-use Rattle.hir.specs.declared.rows.IdentifierName.TheVariants.{Absent, Named, Promoted}
+use Rattle.hir.specs.declared.rows.IdentifierName.TheVariants.{Named, Promoted}
 use Rattle.hir.specs.declared.rows.Identifier.{Identifier}
 use Rattle.hir.specs.declared.rows.Place.{Place}
 use Rattle.hir.specs.declared.rows.Instruction.{Instruction}
@@ -77,10 +77,10 @@ module _ (r s : Rows) (e : Stays r s) where
   spelt_if_same None h = refl
   spelt_if_same (Some n) h = ap Some (spelt_same n h)
 
-  pub name_same : (n : IdentifierName) → IdentifierNameFits (sizes r) n → name_view s.text n ≡ name_view r.text n
-  name_same Absent h = refl
-  name_same (Named n) h = ap NameV.named (spelt_same n h)
-  name_same (Promoted n) h = ap NameV.promoted (spelt_same n h)
+  pub name_same : (n : Option IdentifierName) → IdentifierNameFits (sizes r) n → name_view s.text n ≡ name_view r.text n
+  name_same None h = refl
+  name_same (Some (Named n)) h = ap NameV.named (spelt_same n h)
+  name_same (Some (Promoted n)) h = ap NameV.promoted (spelt_same n h)
 
   pub identifier_same : (x : Identifier) → IdentifierFits (sizes r) x → identifier_view s.text x ≡ identifier_view r.text x
   identifier_same x h = λ i. record { declaration = x.declaration; name = name_same x.name h i }

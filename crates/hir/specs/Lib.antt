@@ -6,3 +6,4 @@ pub mod Frame
 pub mod Lists
 pub mod Tags
 pub mod Keys
+pub mod Given

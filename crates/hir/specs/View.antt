@@ -8,7 +8,7 @@ use Rattle.hir.specs.declared.rows.Name.{Name}
 use Rattle.hir.specs.declared.rows.Run.{Run}
 use Rattle.hir.specs.declared.rows.Counts.{Counts}
 use Rattle.hir.specs.declared.rows.IdentifierName.{IdentifierName}
-use Rattle.hir.specs.declared.rows.IdentifierName.TheVariants.{Absent, Named, Promoted}
+use Rattle.hir.specs.declared.rows.IdentifierName.TheVariants.{Named, Promoted}
 use Rattle.hir.specs.declared.rows.Identifier.{Identifier}
 use Rattle.hir.specs.declared.rows.Place.{Place}
 use Rattle.hir.specs.declared.rows.Instruction.{Instruction}
@@ -78,10 +78,10 @@ abbrev pub spelt_if : Bytes → Option Name → Option Bytes
 spelt_if text None = None
 spelt_if text (Some n) = Some (spelt text n)
 
-abbrev pub name_view : Bytes → IdentifierName → NameV
-name_view text Absent = absent
-name_view text (Named n) = named (spelt text n)
-name_view text (Promoted n) = promoted (spelt text n)
+abbrev pub name_view : Bytes → Option IdentifierName → NameV
+name_view text None = absent
+name_view text (Some (Named n)) = named (spelt text n)
+name_view text (Some (Promoted n)) = promoted (spelt text n)
 
 abbrev pub identifier_view : Bytes → Identifier → IdentifierV
 identifier_view text x = record { declaration = x.declaration; name = name_view text x.name }
@@ -99,7 +99,7 @@ instruction_view r x = record { order = x.order; kind = x.kind; result = place_v
 
 -- what is read past the end of a table: every number 0, every option none
 abbrev pub null_identifier : Identifier
-null_identifier = record { declaration = 0; name = Absent }
+null_identifier = record { declaration = 0; name = None }
 
 abbrev pub null_place : Place
 null_place = record { role = 0; name = None; identifier = record { 0 = 0 }; effect = 0; reactive = false; span = 0 }

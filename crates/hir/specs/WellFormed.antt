@@ -7,7 +7,7 @@ use Rattle.hir.specs.declared.rows.Name.{Name}
 use Rattle.hir.specs.declared.rows.Run.{Run}
 use Rattle.hir.specs.declared.rows.Counts.{Counts}
 use Rattle.hir.specs.declared.rows.IdentifierName.{IdentifierName}
-use Rattle.hir.specs.declared.rows.IdentifierName.TheVariants.{Absent, Named, Promoted}
+use Rattle.hir.specs.declared.rows.IdentifierName.TheVariants.{Named, Promoted}
 use Rattle.hir.specs.declared.rows.Identifier.{Identifier}
 use Rattle.hir.specs.declared.rows.Place.{Place}
 use Rattle.hir.specs.declared.rows.Instruction.{Instruction}
@@ -55,10 +55,10 @@ abbrev pub NameIfFits : Counts → Option Name → Type 0
 NameIfFits c None = Unit {0}
 NameIfFits c (Some n) = NameFits c n
 
-abbrev pub IdentifierNameFits : Counts → IdentifierName → Type 0
-IdentifierNameFits c Absent = Unit {0}
-IdentifierNameFits c (Named n) = NameFits c n
-IdentifierNameFits c (Promoted n) = NameFits c n
+abbrev pub IdentifierNameFits : Counts → Option IdentifierName → Type 0
+IdentifierNameFits c None = Unit {0}
+IdentifierNameFits c (Some (Named n)) = NameFits c n
+IdentifierNameFits c (Some (Promoted n)) = NameFits c n
 
 abbrev pub IdentifierFits : Counts → Identifier → Type 0
 IdentifierFits c x = IdentifierNameFits c x.name

@@ -5,6 +5,30 @@ ghost use Rattle.hir.specs.WellFormed.{blocks_limit, functions_limit, identifier
 use super::rows::{BlockId, Counts, FunctionId, IdentifierId, InstructionId, Name, Run};
 use super::tag::Tag;
 
+// How many rows of each table may be used, and how high the tag counter and the tag mark may be.
+pub const LIMITS: Counts = Counts {
+    text: 1_048_576,
+    identifiers: 65_535,
+    places: 262_144,
+    instructions: 65_535,
+    numbers: 262_144,
+    blocks: 16_384,
+    functions: 1_024,
+    tag_counter: 1_000_000,
+    tag_mark: 1_000_000,
+};
+
+// So many rows more are used. Answers where they begin.
+fn take(used: &mut u32, count: u32) -> u32
+    requires { used.old + count < 2 ^ 32 }
+    ensures first { result ≡ used.old }
+    ensures more { used.new ≡ used.old + count }
+{
+    let first = *used;
+    *used += count;
+    first
+}
+
 // Taking rows that were spare: each answers where they begin, and no other count changes. The caller has seen to the room.
 impl Counts {
     pub fn take_text(&mut self, len: u32) -> Name
@@ -12,8 +36,7 @@ impl Counts {
         ensures at { result ≡ record { start = self.old.text; len = len } }
         ensures counts { self.new ≡ more_text self.old len }
     {
-        let start = self.text;
-        self.text += len;
+        let start = take(&mut self.text, len);
         Name { start, len }
     }
 
@@ -22,9 +45,7 @@ impl Counts {
         ensures at { result.0 ≡ self.old.identifiers }
         ensures counts { self.new ≡ more_identifiers self.old 1 }
     {
-        let id = IdentifierId(self.identifiers);
-        self.identifiers += 1;
-        id
+        IdentifierId(take(&mut self.identifiers, 1))
     }
 
     pub fn take_places(&mut self, count: u32) -> Run
@@ -32,8 +53,7 @@ impl Counts {
         ensures at { result ≡ record { first = self.old.places; count = count } }
         ensures counts { self.new ≡ more_places self.old count }
     {
-        let first = self.places;
-        self.places += count;
+        let first = take(&mut self.places, count);
         Run { first, count }
     }
 
@@ -42,9 +62,7 @@ impl Counts {
         ensures at { result.0 ≡ self.old.instructions }
         ensures counts { self.new ≡ more_instructions self.old 1 }
     {
-        let id = InstructionId(self.instructions);
-        self.instructions += 1;
-        id
+        InstructionId(take(&mut self.instructions, 1))
     }
 
     pub fn take_numbers(&mut self, count: u32) -> Run
@@ -52,8 +70,7 @@ impl Counts {
         ensures at { result ≡ record { first = self.old.numbers; count = count } }
         ensures counts { self.new ≡ more_numbers self.old count }
     {
-        let first = self.numbers;
-        self.numbers += count;
+        let first = take(&mut self.numbers, count);
         Run { first, count }
     }
 
@@ -62,9 +79,7 @@ impl Counts {
         ensures at { result.0 ≡ self.old.blocks }
         ensures counts { self.new ≡ more_blocks self.old 1 }
     {
-        let id = BlockId(self.blocks);
-        self.blocks += 1;
-        id
+        BlockId(take(&mut self.blocks, 1))
     }
 
     pub fn take_function(&mut self) -> FunctionId
@@ -72,9 +87,7 @@ impl Counts {
         ensures at { result.0 ≡ self.old.functions }
         ensures counts { self.new ≡ more_functions self.old 1 }
     {
-        let id = FunctionId(self.functions);
-        self.functions += 1;
-        id
+        FunctionId(take(&mut self.functions, 1))
     }
 
     // Taking a tag raises the counter by one and sets the mark to the tag's number.

@@ -20,7 +20,7 @@ impl Key for IdentifierId {
     ghost transitive = { Prim.search rules };
 
     fn same(&self, other: &IdentifierId, _text: &[u8]) -> bool {
-        self.0 == other.0
+        self == other
     }
 }
 

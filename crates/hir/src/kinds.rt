@@ -5,8 +5,8 @@ ghost use Rattle.rules.specs.Kinds.{acts};
 pub fn is_acting(kind: u8) -> bool
     ensures { result ≡ acts kind }
 {
-    match kind {
-        2 | 4 | 6 | 11..=13 | 23 | 25..=26 | 28 | 30 | 32 | 34..=37 | 40..=42 => true,
-        _ => false,
-    }
+    matches!(
+        kind,
+        2 | 4 | 6 | 11..=13 | 23 | 25..=26 | 28 | 30 | 32 | 34..=37 | 40..=42
+    )
 }

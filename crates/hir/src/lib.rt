@@ -8,6 +8,7 @@ mod reading;
 mod rows;
 mod tag;
 
+pub use counts::LIMITS;
 pub use keys::spelling;
 pub use kinds::is_acting;
 pub use reading::{used_row, used_run};

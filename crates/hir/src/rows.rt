@@ -1,5 +1,7 @@
-// The rows of the seven tables. Roles, kinds and the like are the numbers that the host wrote: a number out of
-// its range is refused by the check of the store, not here. docs/RULES.md has the ranges and what each number means.
+// The rows of the seven tables. Roles, kinds and the like are the numbers that the host wrote, by a rule of the project, and no enums: a
+// number out of its range is refused by the check of the store, not here. docs/RULES.md has the ranges and what each number means.
+ghost use Rattle.std.specs.Prelude.{◌≡◌};
+ghost use Rattle.hir.specs.Given.{given_name};
 
 // A name is a stretch of the text table.
 #[derive(Clone, Copy)]
@@ -29,9 +31,9 @@ pub struct Run {
     pub count: u32,
 }
 
+// A name that an identifier has from the start, or was promoted to.
 #[derive(Clone, Copy)]
 pub enum IdentifierName {
-    Absent,
     Named(Name),
     Promoted(Name),
 }
@@ -39,7 +41,18 @@ pub enum IdentifierName {
 #[derive(Clone, Copy)]
 pub struct Identifier {
     pub declaration: u32,
-    pub name: IdentifierName,
+    pub name: Option<IdentifierName>,
+}
+
+impl Identifier {
+    // What it is called, where it has a name of either sort.
+    pub fn given_name(&self) -> Option<Name>
+        ensures { result ≡ given_name self.now }
+    {
+        match self.name? {
+            IdentifierName::Named(name) | IdentifierName::Promoted(name) => Some(name),
+        }
+    }
 }
 
 // One read or write of an identifier; the role says which.
