@@ -94,14 +94,17 @@ impl<'v, 'a> Fields<'v, 'a> {
     }
 
     // 0 and no name, or 1 for Named or 2 for Promoted and the name.
-    pub fn identifier_name(&mut self, text: &mut Vec<u8>) -> Result<IdentifierName, ReadError> {
+    pub fn identifier_name(
+        &mut self,
+        text: &mut Vec<u8>,
+    ) -> Result<Option<IdentifierName>, ReadError> {
         let kind = self.small("the kind of the identifier's name", 2)?;
         let field = "the identifier's name";
         let name = self.name(field, text)?;
         match (kind, name) {
-            (0, None) => Ok(IdentifierName::Absent),
-            (1, Some(name)) => Ok(IdentifierName::Named(name)),
-            (2, Some(name)) => Ok(IdentifierName::Promoted(name)),
+            (0, None) => Ok(None),
+            (1, Some(name)) => Ok(Some(IdentifierName::Named(name))),
+            (2, Some(name)) => Ok(Some(IdentifierName::Promoted(name))),
             (0, Some(_)) => Err(ReadError::Line(self.fault(field, Wrong::NameUnexpected))),
             _ => Err(ReadError::Line(self.fault(field, Wrong::NameExpected))),
         }

@@ -1,27 +1,27 @@
 -- The name of an identifier, as its row has it and as it is seen.
-use Rattle.std.proofs.Common.{◌≡◌, ℕ, ◌<◌, length, get_or, refl, ap, ◌∙◌, subst, arith, get_or-take}
+use Rattle.std.proofs.Common.{◌≡◌, Some, None, Option, ℕ, ◌<◌, length, get_or, refl, ap, ◌∙◌, subst, arith, get_or-take}
 use Rattle.std.proofs.lemmas.List.{get_or-map}
 use Rattle.std.proofs.ByRecursion.{All-get_or}
 use Rattle.rules.specs.Views.{Bytes, absent, IdentifierV}
 use Rattle.hir.specs.declared.rows.Counts.{Counts}
 use Rattle.hir.specs.declared.rows.IdentifierName.{IdentifierName}
-use Rattle.hir.specs.declared.rows.IdentifierName.TheVariants.{Absent, Named, Promoted}
+use Rattle.hir.specs.declared.rows.IdentifierName.TheVariants.{Named, Promoted}
 use Rattle.hir.specs.Tables.{Tables}
 use Rattle.hir.specs.View.{rows, view, spelt_if, name_view, identifier_view, null_identifier}
 use Rattle.hir.specs.WellFormed.{NameIfFits, IdentifierNameFits, IdentifierFits, WellFormed}
 use Rattle.hir.proofs.Growth.{sizes_are}
 use Rattle.refusals.specs.Walked.{bytes_if, name_of}
-use Rattle.key_children.specs.Given.{name_if}
+use Rattle.hir.specs.Given.{name_if}
 
-name_fits : (c : Counts) (n : IdentifierName) → IdentifierNameFits c n → NameIfFits c (name_if n)
-name_fits c Absent h = tt
-name_fits c (Named n) h = h
-name_fits c (Promoted n) h = h
+name_fits : (c : Counts) (n : Option IdentifierName) → IdentifierNameFits c n → NameIfFits c (name_if n)
+name_fits c None h = tt
+name_fits c (Some (Named n)) h = h
+name_fits c (Some (Promoted n)) h = h
 
-spelt_name : (text : Bytes) (n : IdentifierName) → bytes_if (name_view text n) ≡ spelt_if text (name_if n)
-spelt_name text Absent = refl
-spelt_name text (Named n) = refl
-spelt_name text (Promoted n) = refl
+spelt_name : (text : Bytes) (n : Option IdentifierName) → bytes_if (name_view text n) ≡ spelt_if text (name_if n)
+spelt_name text None = refl
+spelt_name text (Some (Named n)) = refl
+spelt_name text (Some (Promoted n)) = refl
 
 module _ (t : Tables) (w : WellFormed t) (x : ℕ) (h : x < t.counts.identifiers) where
   row_is : get_or (rows t).identifiers x null_identifier ≡ get_or t.identifiers x null_identifier

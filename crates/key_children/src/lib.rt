@@ -9,9 +9,8 @@ ghost use Rattle.hir.specs.Tables.{tables};
 ghost use Rattle.hir.specs.View.{instruction_at, instructions_at, place_view, rows, view};
 ghost use Rattle.hir.specs.WellFormed.{PlaceFits, WellFormed};
 ghost use Rattle.refusals.specs.Walked.{ChildKeyless, FunctionKeyless, Keyless, name_of};
-ghost use Rattle.key_children.specs.Given.{name_if};
 
-use hir::{FunctionId, IdentifierId, IdentifierName, InstructionId, Name, Place, Store};
+use hir::{FunctionId, IdentifierId, InstructionId, Place, Store};
 use listed_rows::listed_row;
 use names::is_key;
 use reading::{block_list, row_places};
@@ -74,18 +73,6 @@ fn named_key(store: &Store<'_>, identifier: IdentifierId) -> bool
     requires used { identifier.0 < store.now.counts.identifiers }
     ensures { result ≡ is_key (name_of (view (tables store.now)) identifier.0) }
 {
-    is_key(
-        store,
-        name_given(store.identifiers[identifier.0 as usize].name),
-    )
-}
-
-fn name_given(name: IdentifierName) -> Option<Name>
-    ensures { result ≡ name_if name }
-{
-    match name {
-        IdentifierName::Absent => None,
-        IdentifierName::Named(name) => Some(name),
-        IdentifierName::Promoted(name) => Some(name),
-    }
+    let row = store.identifiers[identifier.0 as usize];
+    is_key(store, row.given_name())
 }

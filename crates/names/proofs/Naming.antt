@@ -1,5 +1,5 @@
 -- The view after a name is made, spelt or promoted.
-use Rattle.std.proofs.Common.{◌≡◌, ℕ, ◌+◌, ◌<◌, ◌≤◌, ◌++◌, length, get_or, take, drop, sym, refl, ap, ◌∙◌, subst, arith, length-append, length-take-le, take_at}
+use Rattle.std.proofs.Common.{◌≡◌, Some, None, Option, ℕ, ◌+◌, ◌<◌, ◌≤◌, ◌++◌, length, get_or, take, drop, sym, refl, ap, ◌∙◌, subst, arith, length-append, length-take-le, take_at}
 use lib.Seq.{length-paste, take-append-le}
 use Rattle.rules.specs.Lists.{changed}
 use Rattle.rules.specs.Views.{Bytes, absent, named, promoted, IdentifierV, Hir, with_identifiers, write}
@@ -8,7 +8,7 @@ use Rattle.rules.specs.Props.{promote, no_identifier}
 use Rattle.hir.specs.declared.rows.Name.{Name}
 use Rattle.hir.specs.declared.rows.Counts.{Counts}
 use Rattle.hir.specs.declared.rows.IdentifierName.{IdentifierName}
-use Rattle.hir.specs.declared.rows.IdentifierName.TheVariants.{Absent, Named, Promoted}
+use Rattle.hir.specs.declared.rows.IdentifierName.TheVariants.{Named, Promoted}
 use Rattle.hir.specs.declared.rows.Identifier.{Identifier}
 use Rattle.hir.specs.Tables.{Tables, with_text, over_identifier}
 use Rattle.hir.specs.View.{Rows, rows, put_text, null_identifier, identifier_view, spelt, seen, view}
@@ -87,26 +87,24 @@ module _ (t : Tables) (w : WellFormed t) (x : ℕ) (used : x < t.counts.identifi
     view_absent : view (over_identifier t₁ x (promoted_row t i)) ≡ write (with_identifiers (view t) (changed named_now x (view t).identifiers)) made
     view_absent = view_renamed t₁ w₁ x used (promoted_row t i) named_now no_identifier seen_now ∙ ap (λ (h : Hir). with_identifiers h (changed named_now x h.identifiers)) (view_text t w made room)
 
-    by_name : (n : IdentifierName) → view (promoted_if t x i n) ≡ promote_by (view t) x (identifier_view (view t).text (record { declaration = i.declaration; name = n }))
-    by_name Absent = view_absent
-    by_name (Named n) = refl
-    by_name (Promoted n) = refl
+    by_name : (n : Option IdentifierName) → view (promoted_if t x i n) ≡ promote_by (view t) x (identifier_view (view t).text (record { declaration = i.declaration; name = n }))
+    by_name None = view_absent
+    by_name (Some (Named n)) = refl
+    by_name (Some (Promoted n)) = refl
 
     pub view_promoted : view (with_promoted t x) ≡ promote (view t) x
     view_promoted = by_name i.name ∙ ap (promote_by (view t) x) (sym (identifier_seen t w x used no_identifier))
 
-    well_by : (n : IdentifierName) → WellFormed (promoted_if t x i n)
-    well_by Absent = well_renamed t₁ w₁ x used (promoted_row t i) (record { some = omega arith; inside = omega arith })
-    well_by (Named n) = w
-    well_by (Promoted n) = w
+    well_by : (n : Option IdentifierName) → WellFormed (promoted_if t x i n)
+    well_by None = well_renamed t₁ w₁ x used (promoted_row t i) (record { some = omega arith; inside = omega arith })
+    well_by (Some n) = w
 
     pub well_promoted : WellFormed (with_promoted t x)
     well_promoted = well_by i.name
 
-    kept_by : (n : IdentifierName) → Kept t (promoted_if t x i n)
-    kept_by Absent = kept_then (kept_text t made room.in_table) (kept_over_identifier t₁ x (promoted_row t i) used (omega (arith, w.counted.identifiers.in_table)) refl)
-    kept_by (Named n) = kept_same t
-    kept_by (Promoted n) = kept_same t
+    kept_by : (n : Option IdentifierName) → Kept t (promoted_if t x i n)
+    kept_by None = kept_then (kept_text t made room.in_table) (kept_over_identifier t₁ x (promoted_row t i) used (omega (arith, w.counted.identifiers.in_table)) refl)
+    kept_by (Some n) = kept_same t
 
     pub kept_promoted : Kept t (with_promoted t x)
     kept_promoted = kept_by i.name

@@ -101,13 +101,9 @@ fn write_promoted(store: &mut Store<'_>, id: IdentifierId)
     ensures held { Held store.new store.old }
 {
     let identifier = store.identifiers[id.0 as usize];
-    match identifier.name {
-        IdentifierName::Absent => {
-            let name = write_numbered(store, b"#t", identifier.declaration);
-            store.identifiers[id.0 as usize].name = IdentifierName::Promoted(name);
-        }
-        IdentifierName::Named(_) => {}
-        IdentifierName::Promoted(_) => {}
+    if identifier.name.is_none() {
+        let name = write_numbered(store, b"#t", identifier.declaration);
+        store.identifiers[id.0 as usize].name = Some(IdentifierName::Promoted(name));
     }
 }
 

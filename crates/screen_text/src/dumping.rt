@@ -117,9 +117,9 @@ fn dump_identifier(
     identifier: &Identifier,
 ) -> Result<(), PrintError> {
     let (kind, name) = match identifier.name {
-        IdentifierName::Absent => (0, None),
-        IdentifierName::Named(name) => (1, Some(name)),
-        IdentifierName::Promoted(name) => (2, Some(name)),
+        None => (0, None),
+        Some(IdentifierName::Named(name)) => (1, Some(name)),
+        Some(IdentifierName::Promoted(name)) => (2, Some(name)),
     };
     write!(out, "identifier {n} {} {kind} ", identifier.declaration)?;
     put_name(out, store, name)?;

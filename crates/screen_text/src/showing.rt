@@ -5,8 +5,8 @@ use super::words::{
     terminal_name,
 };
 use hir::{
-    BasicBlock, FunctionId, HirFunction, IdentifierId, IdentifierName, Instruction, InstructionId,
-    Place, Run, Store,
+    BasicBlock, FunctionId, HirFunction, IdentifierId, Instruction, InstructionId, Place, Run,
+    Store,
 };
 use std::alloc::Global;
 use std::io::Write;
@@ -266,11 +266,7 @@ fn show_identifier(
             number: id.0,
         });
     };
-    match identifier.name {
-        IdentifierName::Absent => {}
-        IdentifierName::Named(name) => put_name(out, store, Some(name))?,
-        IdentifierName::Promoted(name) => put_name(out, store, Some(name))?,
-    }
+    put_name(out, store, identifier.given_name())?;
     write!(out, "${}", id.0)?;
     Ok(())
 }

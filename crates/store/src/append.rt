@@ -107,7 +107,7 @@ fn write_identifier(store: &mut Store<'_>, identifier: Identifier) -> Identifier
 }
 
 // A fresh identifier (the Rust's `next_identifier_id`): its declaration number is its own.
-pub fn fresh_identifier(store: &mut Store<'_>, name: IdentifierName) -> IdentifierId
+pub fn fresh_identifier(store: &mut Store<'_>, name: Option<IdentifierName>) -> IdentifierId
     requires well { WellFormed (tables store.old) }
     requires room { Room store.old.counts.identifiers 1 (length store.old.identifiers.now) identifiers_limit }
     requires fits { IdentifierNameFits store.old.counts name }

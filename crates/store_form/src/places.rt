@@ -24,9 +24,9 @@ fn identifier_formed(identifier: Identifier, counts: Counts) -> bool
     ensures { MatchBool result (IdentifierFits counts identifier) (IdentifierFits counts identifier → ⊥) }
 {
     match identifier.name {
-        IdentifierName::Absent => true,
-        IdentifierName::Named(name) => name_fits(name, counts),
-        IdentifierName::Promoted(name) => name_fits(name, counts),
+        None => true,
+        Some(IdentifierName::Named(name)) => name_fits(name, counts),
+        Some(IdentifierName::Promoted(name)) => name_fits(name, counts),
     }
 }
 

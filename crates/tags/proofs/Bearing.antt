@@ -1,5 +1,5 @@
 -- Going through the identifiers and the rows: what is left to look at says what the whole says.
-use Rattle.std.proofs.Common.{◌≡◌, ℕ, ◌+◌, ◌<◌, ◌≤◌, Bool, true, false, ◌||◌, List, [], ◌∷◌, map, length, get_or, drop, sym, refl, ap, ◌∙◌, subst, arith, get_or-take}
+use Rattle.std.proofs.Common.{◌≡◌, Some, None, Option, ℕ, ◌+◌, ◌<◌, ◌≤◌, Bool, true, false, ◌||◌, List, [], ◌∷◌, map, length, get_or, drop, sym, refl, ap, ◌∙◌, subst, arith, get_or-take}
 use Rattle.std.proofs.lemmas.List.{at_drop_more, at_drop_all}
 use Rattle.std.proofs.ByRecursion.{All-get_or}
 use Rattle.rules.specs.Lists.{any}
@@ -7,7 +7,7 @@ use Rattle.rules.specs.Views.{Bytes}
 use Rattle.rules.specs.Names.{same_bytes, borne, names_of}
 use Rattle.hir.specs.declared.rows.Counts.{Counts}
 use Rattle.hir.specs.declared.rows.IdentifierName.{IdentifierName}
-use Rattle.hir.specs.declared.rows.IdentifierName.TheVariants.{Absent, Named, Promoted}
+use Rattle.hir.specs.declared.rows.IdentifierName.TheVariants.{Named, Promoted}
 use Rattle.hir.specs.declared.rows.Identifier.{Identifier}
 use Rattle.hir.specs.declared.rows.Instruction.{Instruction}
 use Rattle.hir.specs.Tables.{Tables}
@@ -24,10 +24,10 @@ some_bears n text xs = borne n (names_of (map (identifier_view text) xs))
 abbrev pub some_row : Bytes → Rows → List Instruction → Bool
 some_row n r xs = any (λ x. bears_name (instruction_view r x) n) xs
 
-bears_first : (n text : Bytes) (d : ℕ) (m : IdentifierName) (xs : List Identifier) → some_bears n text (record { declaration = d; name = m } ∷ xs) ≡ (some_bears n text (record { declaration = d; name = m } ∷ []) || some_bears n text xs)
-bears_first n text d Absent xs = refl
-bears_first n text d (Named m) xs = ap (λ b. b || some_bears n text xs) (sym (or_false (same_bytes n (spelt text m))))
-bears_first n text d (Promoted m) xs = ap (λ b. b || some_bears n text xs) (sym (or_false (same_bytes n (spelt text m))))
+bears_first : (n text : Bytes) (d : ℕ) (m : Option IdentifierName) (xs : List Identifier) → some_bears n text (record { declaration = d; name = m } ∷ xs) ≡ (some_bears n text (record { declaration = d; name = m } ∷ []) || some_bears n text xs)
+bears_first n text d None xs = refl
+bears_first n text d (Some (Named m)) xs = ap (λ b. b || some_bears n text xs) (sym (or_false (same_bytes n (spelt text m))))
+bears_first n text d (Some (Promoted m)) xs = ap (λ b. b || some_bears n text xs) (sym (or_false (same_bytes n (spelt text m))))
 
 -- found, or nothing so far
 pub or_found : (b rest whole : Bool) (all : Bool) → b ≡ true → whole ≡ (b || rest) → whole ≡ all → true ≡ all

@@ -14,9 +14,9 @@ fn identifier_bears(store: &Store<'_>, identifier: Identifier, name: &[u8]) -> b
     ensures { result ≡ borne name.now (names_of (identifier_view (view (tables store.now)).text identifier ∷ [])) }
 {
     match identifier.name {
-        IdentifierName::Absent => false,
-        IdentifierName::Named(own) => same_bytes(name, name_bytes(store, own)),
-        IdentifierName::Promoted(own) => same_bytes(name, name_bytes(store, own)),
+        None => false,
+        Some(IdentifierName::Named(own)) => same_bytes(name, name_bytes(store, own)),
+        Some(IdentifierName::Promoted(own)) => same_bytes(name, name_bytes(store, own)),
     }
 }
 
