@@ -10,7 +10,7 @@ mod values;
 
 pub use blocks::{BlockKind, ReturnVariant, Terminal};
 pub use functions::{FunctionType, InstructionKind};
-pub use roles::Role;
+pub use roles::{Effect, Role};
 use std::error::Error;
 use std::fmt;
 pub use values::ValueKind;
