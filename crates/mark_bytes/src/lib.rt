@@ -10,13 +10,5 @@ use hir::Store;
 pub fn marks_ready(store: &Store<'_>, marks: &[u8]) -> bool
     ensures { MatchBool result (MarksReady (tables store.now) marks.now) (MarksReady (tables store.now) marks.now → ⊥) }
 {
-    if marks.len() < store.identifiers.len() {
-        return false;
-    }
-    for mark in marks {
-        if *mark != 0 {
-            return false;
-        }
-    }
-    true
+    marks.len() >= store.identifiers.len() && marks.iter().all(|mark| *mark == 0)
 }

@@ -1,0 +1,94 @@
+-- What rows compute, by number: 0 for a phi, else the position of the variant in `InstructionValue`, counted from 1.
+use Rattle.std.specs.Prelude.{List, codes, ℕ}
+use Rattle.kinds.specs.declared.values.ValueKind.{ValueKind}
+use Rattle.kinds.specs.declared.values.ValueKind.TheVariants.{Phi, LoadLocal, LoadContext, DeclareLocal, DeclareContext, StoreLocal, StoreContext, Destructure, Primitive, JsxText, BinaryExpression, NewExpression, CallExpression, MethodCall, UnaryExpression, TypeCastExpression, JsxExpression, ObjectExpression, ObjectMethod, ArrayExpression, JsxFragment, RegExpLiteral, MetaProperty, PropertyStore, PropertyLoad, PropertyDelete, ComputedStore, ComputedLoad, ComputedDelete, LoadGlobal, StoreGlobal, FunctionExpression, TaggedTemplateExpression, TemplateLiteral, Await, GetIterator, IteratorNext, NextPropertyOf, PrefixUpdate, PostfixUpdate, Debugger, StartMemoize, FinishMemoize}
+
+abbrev pub number_of_value_kind : ValueKind → ℕ
+number_of_value_kind Phi = 0
+number_of_value_kind LoadLocal = 1
+number_of_value_kind LoadContext = 2
+number_of_value_kind DeclareLocal = 3
+number_of_value_kind DeclareContext = 4
+number_of_value_kind StoreLocal = 5
+number_of_value_kind StoreContext = 6
+number_of_value_kind Destructure = 7
+number_of_value_kind Primitive = 8
+number_of_value_kind JsxText = 9
+number_of_value_kind BinaryExpression = 10
+number_of_value_kind NewExpression = 11
+number_of_value_kind CallExpression = 12
+number_of_value_kind MethodCall = 13
+number_of_value_kind UnaryExpression = 14
+number_of_value_kind TypeCastExpression = 15
+number_of_value_kind JsxExpression = 16
+number_of_value_kind ObjectExpression = 17
+number_of_value_kind ObjectMethod = 18
+number_of_value_kind ArrayExpression = 19
+number_of_value_kind JsxFragment = 20
+number_of_value_kind RegExpLiteral = 21
+number_of_value_kind MetaProperty = 22
+number_of_value_kind PropertyStore = 23
+number_of_value_kind PropertyLoad = 24
+number_of_value_kind PropertyDelete = 25
+number_of_value_kind ComputedStore = 26
+number_of_value_kind ComputedLoad = 27
+number_of_value_kind ComputedDelete = 28
+number_of_value_kind LoadGlobal = 29
+number_of_value_kind StoreGlobal = 30
+number_of_value_kind FunctionExpression = 31
+number_of_value_kind TaggedTemplateExpression = 32
+number_of_value_kind TemplateLiteral = 33
+number_of_value_kind Await = 34
+number_of_value_kind GetIterator = 35
+number_of_value_kind IteratorNext = 36
+number_of_value_kind NextPropertyOf = 37
+number_of_value_kind PrefixUpdate = 38
+number_of_value_kind PostfixUpdate = 39
+number_of_value_kind Debugger = 40
+number_of_value_kind StartMemoize = 41
+number_of_value_kind FinishMemoize = 42
+
+abbrev pub name_of_value_kind : ValueKind → List ℕ
+name_of_value_kind Phi = codes "Phi"
+name_of_value_kind LoadLocal = codes "LoadLocal"
+name_of_value_kind LoadContext = codes "LoadContext"
+name_of_value_kind DeclareLocal = codes "DeclareLocal"
+name_of_value_kind DeclareContext = codes "DeclareContext"
+name_of_value_kind StoreLocal = codes "StoreLocal"
+name_of_value_kind StoreContext = codes "StoreContext"
+name_of_value_kind Destructure = codes "Destructure"
+name_of_value_kind Primitive = codes "Primitive"
+name_of_value_kind JsxText = codes "JSXText"
+name_of_value_kind BinaryExpression = codes "BinaryExpression"
+name_of_value_kind NewExpression = codes "NewExpression"
+name_of_value_kind CallExpression = codes "CallExpression"
+name_of_value_kind MethodCall = codes "MethodCall"
+name_of_value_kind UnaryExpression = codes "UnaryExpression"
+name_of_value_kind TypeCastExpression = codes "TypeCastExpression"
+name_of_value_kind JsxExpression = codes "JSX"
+name_of_value_kind ObjectExpression = codes "ObjectExpression"
+name_of_value_kind ObjectMethod = codes "ObjectMethod"
+name_of_value_kind ArrayExpression = codes "ArrayExpression"
+name_of_value_kind JsxFragment = codes "JsxFragment"
+name_of_value_kind RegExpLiteral = codes "RegExpLiteral"
+name_of_value_kind MetaProperty = codes "MetaProperty"
+name_of_value_kind PropertyStore = codes "PropertyStore"
+name_of_value_kind PropertyLoad = codes "PropertyLoad"
+name_of_value_kind PropertyDelete = codes "PropertyDelete"
+name_of_value_kind ComputedStore = codes "ComputedStore"
+name_of_value_kind ComputedLoad = codes "ComputedLoad"
+name_of_value_kind ComputedDelete = codes "ComputedDelete"
+name_of_value_kind LoadGlobal = codes "LoadGlobal"
+name_of_value_kind StoreGlobal = codes "StoreGlobal"
+name_of_value_kind FunctionExpression = codes "FunctionExpression"
+name_of_value_kind TaggedTemplateExpression = codes "TaggedTemplateExpression"
+name_of_value_kind TemplateLiteral = codes "TemplateLiteral"
+name_of_value_kind Await = codes "Await"
+name_of_value_kind GetIterator = codes "GetIterator"
+name_of_value_kind IteratorNext = codes "IteratorNext"
+name_of_value_kind NextPropertyOf = codes "NextPropertyOf"
+name_of_value_kind PrefixUpdate = codes "PrefixUpdate"
+name_of_value_kind PostfixUpdate = codes "PostfixUpdate"
+name_of_value_kind Debugger = codes "Debugger"
+name_of_value_kind StartMemoize = codes "StartMemoize"
+name_of_value_kind FinishMemoize = codes "FinishMemoize"
