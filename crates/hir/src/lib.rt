@@ -3,14 +3,14 @@
 
 mod counts;
 mod keys;
-mod kinds;
+mod numbers;
 mod reading;
 mod rows;
 mod tag;
 
 pub use counts::LIMITS;
 pub use keys::spelling;
-pub use kinds::is_acting;
+pub use numbers::is_acting;
 pub use reading::{used_row, used_run};
 pub use rows::{
     BasicBlock, BlockId, Counts, FunctionId, HirFunction, Identifier, IdentifierId, IdentifierName,
