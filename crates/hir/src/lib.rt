@@ -7,6 +7,7 @@ mod numbers;
 mod reading;
 mod rows;
 mod tag;
+mod writing;
 
 pub use counts::LIMITS;
 pub use keys::spelling;
@@ -17,3 +18,4 @@ pub use rows::{
     Instruction, InstructionId, Name, Place, Run, Store,
 };
 pub use tag::{Report, Tag};
+pub use writing::write_rows;

@@ -11,7 +11,7 @@ ghost use Rattle.hir.specs.Frame.{Becomes};
 
 use hir::{
     FunctionId, HirFunction, Identifier, IdentifierId, IdentifierName, Instruction, InstructionId,
-    Place, Report, Run, Store, Tag,
+    Place, Report, Run, Store, Tag, write_rows,
 };
 
 // Each append has a part that only writes, and asks for room alone.
@@ -23,8 +23,7 @@ fn write_places(store: &mut Store<'_>, places: &[Place]) -> Run
     ensures held { Held store.new store.old }
 {
     let run = store.counts.take_places(places.len() as u32);
-    let at = run.first as usize;
-    store.places[at..at + places.len()].copy_from_slice(places);
+    write_rows(store.places, run.first, places);
     run
 }
 
@@ -79,9 +78,7 @@ pub(super) fn write_numbers(store: &mut Store<'_>, numbers: &[u32]) -> Run
     ensures held { Held store.new store.old }
 {
     let run = store.counts.take_numbers(numbers.len() as u32);
-    let at = run.first as usize;
-    let end = at + numbers.len();
-    store.numbers[at..end].copy_from_slice(numbers);
+    write_rows(store.numbers, run.first, numbers);
     run
 }
 

@@ -10,7 +10,8 @@ use super::append::write_numbers;
 use hir::{BasicBlock, BlockId, FunctionId, Store};
 
 fn write_block(store: &mut Store<'_>, block: BasicBlock, list: &[u32]) -> BlockId
-    requires { (Room store.old.counts.numbers (length list.now) (length store.old.numbers.now) numbers_limit) × (Room store.old.counts.blocks 1 (length store.old.blocks.now) blocks_limit) }
+    requires numbers { Room store.old.counts.numbers (length list.now) (length store.old.numbers.now) numbers_limit }
+    requires blocks { Room store.old.counts.blocks 1 (length store.old.blocks.now) blocks_limit }
     ensures at { result.0 ≡ store.old.counts.blocks }
     ensures writes { tables store.new ≡ with_listed_block (tables store.old) block list.now }
     ensures held { Held store.new store.old }
@@ -37,7 +38,10 @@ pub fn append_block(store: &mut Store<'_>, block: BasicBlock, list: &[u32]) -> B
 }
 
 fn write_list(store: &mut Store<'_>, function: FunctionId, k: u32, list: &[u32])
-    requires { (function.0 < length store.old.functions.now) × ((block_number (tables store.old) function.0 k < length store.old.blocks.now) × ((block_number (tables store.old) function.0 k < blocks_limit) × (Room store.old.counts.numbers (length list.now) (length store.old.numbers.now) numbers_limit))) }
+    requires function { function.0 < length store.old.functions.now }
+    requires in_table { block_number (tables store.old) function.0 k < length store.old.blocks.now }
+    requires in_limit { block_number (tables store.old) function.0 k < blocks_limit }
+    requires room { Room store.old.counts.numbers (length list.now) (length store.old.numbers.now) numbers_limit }
     ensures writes { tables store.new ≡ with_new_list (tables store.old) function.0 k list.now }
     ensures held { Held store.new store.old }
 {

@@ -4,15 +4,12 @@ use Rattle.hir.proofs.Laws.{view_instruction, well_instruction}
 use Rattle.hir.proofs.Frames.{kept_instruction}
 use Rattle.store.proofs.append.append_instruction.Goals as goal
 
-pub returns : goal.returns
-returns c =
+pub returns-clause-does : goal.returns-clause-does
+returns-clause-does c =
     let a = c.args in
     let t : Tables = tables a.store.now in
     let e = c.write_instruction.ensures in
-    record {
-      at = e.at;
-      does = becomes a.store.now c.write_instruction.new.store _ _ e.writes e.held
-          (view_instruction t c.requires.well a.instruction c.requires.room)
-          (well_instruction t c.requires.well a.instruction c.requires.room c.requires.fits)
-          (kept_instruction t a.instruction);
-    }
+    becomes a.store.now c.write_instruction.new.store _ _ e.writes e.held
+    (view_instruction t c.requires.well a.instruction c.requires.room)
+    (well_instruction t c.requires.well a.instruction c.requires.room c.requires.fits)
+    (kept_instruction t a.instruction)

@@ -9,7 +9,7 @@ write_list-requires c =
     let a = c.args in
     let u = block_used (tables a.store.now) c.requires.well a.function.0 a.k c.requires.has in
     let w = c.requires.well.counted in
-    (omega (arith, c.requires.has.function, w.functions.in_table), (omega (arith, u, w.blocks.in_table), (omega (arith, u, w.blocks.in_limit), c.requires.room)))
+    record { function = omega (arith, c.requires.has.function, w.functions.in_table); in_table = omega (arith, u, w.blocks.in_table); in_limit = omega (arith, u, w.blocks.in_limit); room = c.requires.room }
 
 pub returns : goal.returns
 returns c =
