@@ -2,6 +2,7 @@
 #![tactic(auto)]
 
 mod counts;
+mod formed;
 mod keys;
 mod numbers;
 mod reading;
@@ -10,6 +11,7 @@ mod tag;
 mod writing;
 
 pub use counts::LIMITS;
+pub use formed::FormedStore;
 pub use keys::spelling;
 pub use numbers::is_acting;
 pub use reading::{used_row, used_run};
