@@ -9,3 +9,4 @@ pub mod Listed
 pub mod Renaming
 pub mod Calls
 pub mod Seen
+pub mod Props

@@ -1,24 +1,33 @@
 -- What a row, its places and a block's list are, as the code reads them.
 use Rattle.std.proofs.Common.{◌≡◌, ℕ, zero, suc, ◌+◌, ◌-◌, ◌<◌, ◌≤◌, List, [], ◌∷◌, map, length, get_or, take, drop, sym, refl, ap, ◌∙◌, subst, arith, length-take-le, get_or-take}
 use Rattle.std.specs.List.{AllByRecursion}
-use Rattle.std.proofs.ByRecursion.{All-get_or, All-take, All-drop}
-use Rattle.std.proofs.lemmas.List.{get_or-map}
+use Rattle.std.proofs.ByRecursion.{All-get_or, All-take, All-drop, All-weaker}
+use Rattle.std.proofs.lemmas.List.{get_or-map, length-map}
 use Rattle.rules.specs.Views.{InstructionV, FunctionV, no_function, function_at, block_rows, rows_at}
 use Rattle.hir.specs.declared.rows.Run.{Run}
 use Rattle.hir.specs.declared.rows.Counts.{Counts}
 use Rattle.hir.specs.declared.rows.Instruction.{Instruction}
 use Rattle.hir.specs.declared.rows.BasicBlock.{BasicBlock}
+use Rattle.hir.specs.declared.rows.HirFunction.{HirFunction}
 use Rattle.hir.specs.Used.{in_run}
 use Rattle.hir.specs.Tables.{Tables}
 use Rattle.hir.specs.View.{Rows, rows, null_instruction, null_block, null_function, place_view, instruction_view, instruction_at, instructions_at, block_view, function_view, view}
-use Rattle.hir.specs.WellFormed.{RunFits, PlaceFits, InstructionFits, Readable, WellFormed}
-use Rattle.hir.specs.Lists.{block_number, block_of, HasBlock}
-use Rattle.hir.proofs.Runs.{run_used, getD_run, covered}
+use Rattle.hir.specs.WellFormed.{RunFits, PlaceFits, InstructionFits, BlockFits, FunctionFits, Readable, WellFormed}
+use Rattle.hir.specs.Legible.{BlockLegible, Legible}
+use Rattle.hir.specs.Lists.{block_number, block_of}
+use Rattle.hir.proofs.Runs.{run_used, length_run, getD_run, covered}
 use Rattle.hir.proofs.Growth.{sizes_are}
-use Rattle.hir.proofs.Listed.{block_used, block_is, block_fits_at}
 
 pub readable : (t : Tables) → WellFormed t → Readable t
 readable t w = record { counted = w.counted; places = w.sound.places; instructions = w.sound.instructions }
+
+pub legible : (t : Tables) → WellFormed t → Legible t
+legible t w = record {
+  readable = readable t w;
+  identifiers = w.sound.identifiers;
+  blocks = All-weaker (BlockFits t.counts (rows t).numbers) (BlockLegible t.counts (rows t).numbers) (λ b h. record { instructions = h.instructions; listed = h.listed }) (rows t).blocks w.sound.blocks;
+  functions = w.sound.functions;
+}
 
 -- a slice of a table, from `first` to `first + count`, is what the run covers
 pub slice_run : {A : Type 0} (run : Run) (u : ℕ) (xs : List A) → u ≤ length xs → RunFits run u → take (run.first + run.count - run.first) (drop run.first xs) ≡ in_run (take u xs) run
@@ -53,26 +62,53 @@ block_rows_at r [] k d h = absurd (omega arith)
 block_rows_at r (b ∷ bs) zero d h = refl
 block_rows_at r (b ∷ bs) (suc k) d h = block_rows_at r bs k d (omega arith)
 
--- the k-th block of function f
-module _ (t : Tables) (w : WellFormed t) (f k : ℕ) (has : HasBlock t f k) where
-  pub function_seen : function_at (view t) f ≡ function_view (rows t) (get_or t.functions f null_function)
-  function_seen =
-      get_or-map (function_view (rows t)) (rows t).functions f null_function no_function (omega (arith, ap (λ (c : Counts). c.functions) (sizes_are t w.counted), has.function))
-      ∙ ap (function_view (rows t)) (get_or-take t.counts.functions t.functions f null_function has.function)
+-- a used function
+module _ (t : Tables) (l : Legible t) (f : ℕ) (used : f < t.counts.functions) where
+  abbrev own : HirFunction
+  own = get_or t.functions f null_function
 
-  abbrev run : Run
-  run = (get_or t.functions f null_function).blocks
+  functions_size : length (rows t).functions ≡ t.counts.functions
+  functions_size = ap (λ (c : Counts). c.functions) (sizes_are t l.readable.counted)
 
-  pub list_seen : rows_at (view t) f k ≡ instructions_at (rows t) (in_run (rows t).numbers (block_of t f k).instructions)
-  list_seen =
-      let u = block_used t w f k has in
-      ap (λ (g : FunctionV). block_rows g.blocks k) function_seen
-      ∙ block_rows_at (rows t) (in_run (rows t).blocks run) k null_block (covered run (rows t).blocks k has.block (omega (arith, u, ap (λ (c : Counts). c.blocks) (sizes_are t w.counted))))
-      ∙ ap (λ b. (block_view (rows t) b).rows) (getD_run run (rows t).blocks k null_block has.block ∙ block_is t w f k has (block_number t f k) u)
+  blocks_size : length (rows t).blocks ≡ t.counts.blocks
+  blocks_size = ap (λ (c : Counts). c.blocks) (sizes_are t l.readable.counted)
 
-  -- the list as the code reads it
-  pub list_read : take ((block_of t f k).instructions.first + (block_of t f k).instructions.count - (block_of t f k).instructions.first) (drop (block_of t f k).instructions.first t.numbers) ≡ in_run (rows t).numbers (block_of t f k).instructions
-  list_read = slice_run (block_of t f k).instructions t.counts.numbers t.numbers (omega (arith, w.counted.numbers.in_table)) (block_fits_at t w f k has).instructions
+  own_is : get_or (rows t).functions f null_function ≡ own
+  own_is = get_or-take t.counts.functions t.functions f null_function used
 
-  pub list_listed : AllByRecursion (λ n. n < t.counts.instructions) (in_run (rows t).numbers (block_of t f k).instructions)
-  list_listed = (block_fits_at t w f k has).listed
+  pub function_is : function_at (view t) f ≡ function_view (rows t) own
+  function_is = get_or-map (function_view (rows t)) (rows t).functions f null_function no_function (omega (arith, functions_size)) ∙ ap (function_view (rows t)) own_is
+
+  pub function_fits : FunctionFits t.counts own
+  function_fits = subst (FunctionFits t.counts) own_is (All-get_or (FunctionFits t.counts) (rows t).functions f null_function (omega (arith, functions_size)) l.functions)
+
+  -- it has as many blocks as its run says
+  pub blocks_counted : length (function_at (view t) f).blocks ≡ own.blocks.count
+  blocks_counted =
+      ap (λ (g : FunctionV). length g.blocks) function_is
+      ∙ length-map (in_run (rows t).blocks own.blocks) (block_view (rows t))
+      ∙ length_run own.blocks (rows t).blocks (omega (arith, function_fits.blocks, blocks_size))
+
+  -- its k-th block
+  module _ (k : ℕ) (inside : k < own.blocks.count) where
+    pub block_used : block_number t f k < t.counts.blocks
+    block_used = omega (arith, function_fits.blocks)
+
+    block_is : get_or (rows t).blocks (block_number t f k) null_block ≡ block_of t f k
+    block_is = get_or-take t.counts.blocks t.blocks (block_number t f k) null_block block_used
+
+    pub block_legible : BlockLegible t.counts (rows t).numbers (block_of t f k)
+    block_legible = subst (BlockLegible t.counts (rows t).numbers) block_is (All-get_or (BlockLegible t.counts (rows t).numbers) (rows t).blocks (block_number t f k) null_block (omega (arith, block_used, blocks_size)) l.blocks)
+
+    pub list_seen : rows_at (view t) f k ≡ instructions_at (rows t) (in_run (rows t).numbers (block_of t f k).instructions)
+    list_seen =
+        ap (λ (g : FunctionV). block_rows g.blocks k) function_is
+        ∙ block_rows_at (rows t) (in_run (rows t).blocks own.blocks) k null_block (covered own.blocks (rows t).blocks k inside (omega (arith, block_used, blocks_size)))
+        ∙ ap (λ b. (block_view (rows t) b).rows) (getD_run own.blocks (rows t).blocks k null_block inside ∙ block_is)
+
+    -- the list as the code reads it
+    pub list_read : take ((block_of t f k).instructions.first + (block_of t f k).instructions.count - (block_of t f k).instructions.first) (drop (block_of t f k).instructions.first t.numbers) ≡ in_run (rows t).numbers (block_of t f k).instructions
+    list_read = slice_run (block_of t f k).instructions t.counts.numbers t.numbers (omega (arith, l.readable.counted.numbers.in_table)) block_legible.instructions
+
+    pub list_listed : AllByRecursion (λ n. n < t.counts.instructions) (in_run (rows t).numbers (block_of t f k).instructions)
+    list_listed = block_legible.listed

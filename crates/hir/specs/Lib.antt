@@ -7,3 +7,4 @@ pub mod Lists
 pub mod Tags
 pub mod Keys
 pub mod Given
+pub mod Legible
