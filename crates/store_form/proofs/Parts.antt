@@ -1,13 +1,10 @@
 -- The places of an element by the place before, and the one place of a Destructure that is read by how many there are.
-use Rattle.std.proofs.Common.{◌≡◌, ℕ, zero, suc, Bool, inl, inr, ◌+◌, ◌-◌, ◌<◌, ◌≤◌, List, [], ◌∷◌, length, None, Some, Option, ◌∙◌, sym, ap, arith, refl}
+use Rattle.std.proofs.Common.{◌≡◌, ℕ, zero, suc, Bool, inl, inr, ◌+◌, ◌<◌, ◌≤◌, List, [], ◌∷◌, length, None, Some, Option, ◌∙◌, sym, ap, arith, refl}
 use Rattle.std.specs.Prelude.{count_by, cond, nat_le, nat_eq, MatchBool}
-use Rattle.std.specs.List.{AllByRecursion}
-use Rattle.std.proofs.ByRecursion.{All-get_or, All-from_get_or}
 use Rattle.std.proofs.lemmas.List.Recursion.{is_count_by}
 use Rattle.std.proofs.lemmas.Bool.Decides.{leb_tells, eqb_tells}
 use native.Mathlib.Numerals.{unary_clauses}
 use Rattle.hir.specs.declared.rows.Place.{Place}
-use Rattle.hir.specs.View.{null_place}
 use Rattle.refusals.specs.Form.{role_at, RoleFormed}
 use Rattle.store_form.specs.Parts.{MayFollow, ReadsOne}
 

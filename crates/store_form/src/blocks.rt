@@ -11,7 +11,13 @@ use hir::{BasicBlock, HirFunction, Place, Run, used_run};
 use kinds::{BlockKind, FunctionType, Role, Terminal};
 
 impl Used<'_> {
-    pub fn block_formed(&self, row: &BasicBlock) -> bool
+    pub fn blocks_formed(&self, rows: &[BasicBlock]) -> bool
+        ensures { MatchBool result (AllByRecursion (BlockFormed self.now.counts self.now.places.now) rows.now) (AllByRecursion (BlockFormed self.now.counts self.now.places.now) rows.now → ⊥) }
+    {
+        rows.iter().all(|row| self.block_formed(row))
+    }
+
+    fn block_formed(&self, row: &BasicBlock) -> bool
         ensures { MatchBool result (BlockFormed self.now.counts self.now.places.now row.now) (BlockFormed self.now.counts self.now.places.now row.now → ⊥) }
     {
         BlockKind::try_from(row.kind).is_ok()
@@ -21,11 +27,17 @@ impl Used<'_> {
             && self.all_of_role(row.places, Role::Read)
     }
 
-    pub fn function_formed(&self, row: &HirFunction) -> bool
+    pub fn functions_formed(&self, rows: &[HirFunction]) -> bool
+        ensures { MatchBool result (AllByRecursion (FunctionFormed self.now.counts self.now.places.now) rows.now) (AllByRecursion (FunctionFormed self.now.counts self.now.places.now) rows.now → ⊥) }
+    {
+        rows.iter().all(|row| self.function_formed(row))
+    }
+
+    fn function_formed(&self, row: &HirFunction) -> bool
         ensures { MatchBool result (FunctionFormed self.now.counts self.now.places.now row.now) (FunctionFormed self.now.counts self.now.places.now row.now → ⊥) }
     {
         FunctionType::try_from(row.fn_type).is_ok()
-            && row.returns.role == Role::Written as u8
+            && row.returns.is_written()
             && place_formed(&row.returns, self.counts)
             && name_if_fits(row.tag, self.counts)
             && run_fits(row.blocks, self.counts.blocks)
@@ -36,7 +48,10 @@ impl Used<'_> {
     fn all_of_role(&self, run: Run, role: Role) -> bool
         ensures { MatchBool result (RunOf (number_of_role role) self.now.counts self.now.places.now run) (RunOf (number_of_role role) self.now.counts self.now.places.now run → ⊥) }
     {
-        used_run(self.places, self.counts.places, run).is_some_and(|places| roles_are(places, role))
+        used_run(self.places, self.counts.places, run).is_some_and(|places| roles_are(
+            places,
+            u8::from(role),
+        ))
     }
 }
 
@@ -46,8 +61,8 @@ fn run_fits(run: Run, used: u32) -> bool
     run.first as u64 + run.count as u64 <= used as u64
 }
 
-fn roles_are(places: &[Place], role: Role) -> bool
-    ensures { MatchBool result (AllByRecursion (λ (p : Place). p.role ≡ number_of_role role) places.now) (AllByRecursion (λ (p : Place). p.role ≡ number_of_role role) places.now → ⊥) }
+fn roles_are(places: &[Place], role: u8) -> bool
+    ensures { MatchBool result (AllByRecursion (λ (p : Place). p.role ≡ role) places.now) (AllByRecursion (λ (p : Place). p.role ≡ role) places.now → ⊥) }
 {
-    places.iter().all(|place| place.role == role as u8)
+    places.iter().all(|place| place.role == role)
 }

@@ -9,27 +9,34 @@ use hir::{Counts, Instruction, Name, Place, used_run};
 use kinds::{OBJECT_PATTERN, Role, ValueKind};
 
 impl Used<'_> {
-    pub fn instruction_formed(&self, row: &Instruction) -> bool
+    pub fn instructions_formed(&self, rows: &[Instruction]) -> bool
+        ensures { MatchBool result (AllByRecursion (InstructionFormed self.now.counts self.now.places.now) rows.now) (AllByRecursion (InstructionFormed self.now.counts self.now.places.now) rows.now → ⊥) }
+    {
+        rows.iter().all(|row| self.instruction_formed(row))
+    }
+
+    fn instruction_formed(&self, row: &Instruction) -> bool
         ensures { MatchBool result (InstructionFormed self.now.counts self.now.places.now row.now) (InstructionFormed self.now.counts self.now.places.now row.now → ⊥) }
     {
         ValueKind::try_from(row.kind).is_ok()
-            && row.result.role == Role::Written as u8
+            && row.result.is_written()
             && place_formed(&row.result, self.counts)
             && name_if_fits(row.name, self.counts)
-            && inner_formed(row.kind, row.function.0, self.counts)
+            && inner_formed(row, self.counts)
             && used_run(self.places, self.counts.places, row.places).is_some_and(
                 |places| kind_formed(row, places),
             )
     }
 }
 
-fn inner_formed(kind: u8, function: u32, counts: Counts) -> bool
-    ensures { MatchBool result (InnerFormed counts kind function) (InnerFormed counts kind function → ⊥) }
+// A function number where the kind has one, and only there.
+fn inner_formed(row: &Instruction, counts: Counts) -> bool
+    ensures { MatchBool result (InnerFormed counts row.now.kind row.now.function.0) (InnerFormed counts row.now.kind row.now.function.0 → ⊥) }
 {
-    if kind == ValueKind::ObjectMethod as u8 || kind == ValueKind::FunctionExpression as u8 {
-        function < counts.functions
+    if row.has_kind(ValueKind::ObjectMethod) || row.has_kind(ValueKind::FunctionExpression) {
+        row.function.0 < counts.functions
     } else {
-        function == 0
+        row.function.0 == 0
     }
 }
 
@@ -45,6 +52,7 @@ fn kind_formed(row: &Instruction, places: &[Place]) -> bool
     }
 }
 
+// The tag or the row's name, and places in the order of their roles.
 fn element_formed(row: &Instruction, places: &[Place]) -> bool
     ensures { MatchBool result (ElementFormed row.now places.now) (ElementFormed row.now places.now → ⊥) }
 {
@@ -67,7 +75,7 @@ fn tag_given(name: Option<Name>, places: &[Place]) -> bool
     name.is_some()
         || places
             .first()
-            .is_some_and(|place| place.role == Role::Tag as u8)
+            .is_some_and(|place| place.has_role(Role::Tag))
 }
 
 // A tag only at the start, then attributes and spreads, then children, and these only with a child list.
@@ -94,15 +102,13 @@ fn destructure_formed(detail: u64, places: &[Place]) -> bool
 fn reads_one(places: &[Place]) -> bool
     ensures { MatchBool result (ReadsOne places.now) (ReadsOne places.now → ⊥) }
 {
-    places
-        .iter()
-        .filter(|place| place.role <= Role::Child as u8)
-        .count()
-        == 1
+    places.iter().filter(|place| place.is_read()).count() == 1
 }
 
 fn each_keyed(places: &[Place]) -> bool
     ensures { MatchBool result (AllByRecursion Keyed places.now) (AllByRecursion Keyed places.now → ⊥) }
 {
-    places.iter().all(|place| place.role <= Role::Child as u8 || place.name.is_some())
+    places
+        .iter()
+        .all(|place| place.is_read() || place.name.is_some())
 }

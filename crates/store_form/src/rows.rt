@@ -6,7 +6,7 @@ ghost use Rattle.refusals.specs.Form.{RowsFormed};
 
 use super::counts::tags_low;
 use super::form::Used;
-use super::places::{identifier_formed, place_formed};
+use super::places::{identifiers_formed, places_formed};
 use hir::Store;
 
 // Every used row has its form, whatever function it belongs to.
@@ -18,17 +18,9 @@ pub fn rows_formed(store: &Store<'_>) -> bool
     let places = &store.places[..counts.places as usize];
     let used = Used { counts, places };
     tags_low(counts)
-        && store.identifiers[..counts.identifiers as usize]
-            .iter()
-            .all(|row| identifier_formed(row, counts))
-        && places.iter().all(|row| place_formed(row, counts))
-        && store.instructions[..counts.instructions as usize]
-            .iter()
-            .all(|row| used.instruction_formed(row))
-        && store.blocks[..counts.blocks as usize]
-            .iter()
-            .all(|row| used.block_formed(row))
-        && store.functions[..counts.functions as usize]
-            .iter()
-            .all(|row| used.function_formed(row))
+        && identifiers_formed(&store.identifiers[..counts.identifiers as usize], counts)
+        && places_formed(places, counts)
+        && used.instructions_formed(&store.instructions[..counts.instructions as usize])
+        && used.blocks_formed(&store.blocks[..counts.blocks as usize])
+        && used.functions_formed(&store.functions[..counts.functions as usize])
 }

@@ -1,4 +1,4 @@
-use Rattle.std.proofs.Common.{◌≡◌, ℕ, Option, sym, subst, refl, add-one, arith, below_more}
+use Rattle.std.proofs.Common.{ℕ, Option, sym, subst, refl, add-one, arith, below_more}
 use Rattle.refusals.specs.Form.{role_at}
 use Rattle.store_form.specs.Parts.{MayFollow}
 use Rattle.store_form.proofs.Parts.{formed, follows}

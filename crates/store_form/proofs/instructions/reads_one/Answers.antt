@@ -1,6 +1,5 @@
-use Rattle.std.proofs.Common.{◌≡◌, ℕ, rules}
-use Rattle.std.specs.Prelude.{count_by}
-use Rattle.store_form.proofs.Parts.{reads, one_counted}
+use Rattle.std.proofs.Common.{rules}
+use Rattle.store_form.proofs.Parts.{one_counted}
 use Rattle.store_form.proofs.instructions.reads_one.Goals as goal
 
 pub returns : goal.returns
