@@ -1,9 +1,20 @@
-ghost use Rattle.std.specs.Prelude.{ℕ, ◌+◌, ◌<◌, ◌≤◌, length, MatchBool, slice_index_or};
+ghost use Rattle.std.specs.Prelude.{◌≡◌, ℕ, ◌+◌, ◌<◌, ◌≤◌, length, replicate, MatchBool, slice_index_or};
+ghost use Rattle.std.specs.List.{AllByRecursion};
 ghost use Rattle.hir.specs.View.{null_block, null_function};
 ghost use Rattle.hir.specs.WellFormed.{RunFits};
 ghost use Rattle.listed_once.specs.Marking.{AllClear, list_or_preds, MarksRun, NoMarks, Unmarked};
 
 use hir::{BasicBlock, HirFunction, Run};
+
+// Marks all; true if none was marked.
+fn mark_all(marks: &mut [u8]) -> bool
+    ensures free { MatchBool result (AllByRecursion (λ m. m ≡ 0) marks.old) (AllByRecursion (λ m. m ≡ 0) marks.old → ⊥) }
+    ensures marked { marks.new ≡ replicate (length marks.old) 1 }
+{
+    let free = marks.iter().all(|mark| *mark == 0);
+    marks.fill(1);
+    free
+}
 
 // Marks what a run covers; false if some of it is marked already.
 fn mark_run(run: Run, marks: &mut [u8]) -> bool
@@ -11,13 +22,7 @@ fn mark_run(run: Run, marks: &mut [u8]) -> bool
     ensures { MatchBool result (MarksRun run marks.old marks.new) (Unmarked run marks.old → ⊥) }
 {
     let first = run.first as usize;
-    for k in 0..run.count as usize {
-        if marks[first + k] != 0 {
-            return false;
-        }
-        marks[first + k] = 1;
-    }
-    true
+    mark_all(&mut marks[first..first + run.count as usize])
 }
 
 // No list number is covered by two lists or predecessor runs.
@@ -27,13 +32,13 @@ pub fn lists_apart(blocks: &[BasicBlock], marks: &mut [u8]) -> bool
     requires clear { NoMarks marks.old }
     ensures { MatchBool result (AllClear (list_or_preds blocks.now) (length blocks.now + length blocks.now)) (AllClear (list_or_preds blocks.now) (length blocks.now + length blocks.now) → ⊥) }
 {
-    for i in 0..blocks.len() {
-        if !mark_run(blocks[i].instructions, marks) {
+    for block in blocks {
+        if !mark_run(block.instructions, marks) {
             return false;
         }
     }
-    for j in 0..blocks.len() {
-        if !mark_run(blocks[j].preds, marks) {
+    for block in blocks {
+        if !mark_run(block.preds, marks) {
             return false;
         }
     }
@@ -46,8 +51,8 @@ pub fn functions_apart(functions: &[HirFunction], marks: &mut [u8]) -> bool
     requires clear { NoMarks marks.old }
     ensures { MatchBool result (AllClear (λ f. (slice_index_or functions.now f null_function).blocks) (length functions.now)) (AllClear (λ f. (slice_index_or functions.now f null_function).blocks) (length functions.now) → ⊥) }
 {
-    for i in 0..functions.len() {
-        if !mark_run(functions[i].blocks, marks) {
+    for function in functions {
+        if !mark_run(function.blocks, marks) {
             return false;
         }
     }

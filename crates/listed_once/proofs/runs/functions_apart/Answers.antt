@@ -3,5 +3,5 @@ use Rattle.hir.specs.View.{null_function}
 use Rattle.listed_once.proofs.Marks.{one_more}
 use Rattle.listed_once.proofs.runs.functions_apart.Goals as goal
 
-pub loop-i-preserved : goal.loop-i-preserved
-loop-i-preserved c = one_more (λ f. (get_or c.args.functions.now f null_function).blocks) c.loop-i.i c.loop-i.marks _ c.loop-i.invariant c.if-not-mark_run.ensures
+pub loop-function-preserved : goal.loop-function-preserved
+loop-function-preserved c = one_more (λ f. (get_or c.args.functions.now f null_function).blocks) c.loop-function.function-index c.loop-function.marks _ c.loop-function.invariant c.if-not-mark_run.ensures

@@ -8,27 +8,27 @@ use Rattle.listed_once.proofs.runs.lists_apart.Goals as goal
 pub returns-then-not-mark_run : goal.returns-then-not-mark_run
 returns-then-not-mark_run c =
     let bs = c.args.blocks.now in
-    let i = c.loop-i.i in
-    let ms = c.loop-i.marks in
+    let i = c.loop-block.block-index in
+    let ms = c.loop-block.marks in
     refused (list_or_preds bs) i (length bs + length bs) ms
-    (marked_like (λ b. (get_or bs b null_block).instructions) (list_or_preds bs) i ms (λ a h. as_list bs a (omega arith)) c.loop-i.invariant)
+    (marked_like (λ b. (get_or bs b null_block).instructions) (list_or_preds bs) i ms (λ a h. as_list bs a (omega arith)) c.loop-block.invariant)
     (λ u. c.if-not-mark_run.ensures (subst (λ (r : Run). Unmarked r ms) (sym (as_list bs i (omega arith))) u))
     (omega arith)
 
-pub loop-i-preserved : goal.loop-i-preserved
-loop-i-preserved c = one_more (λ b. (get_or c.args.blocks.now b null_block).instructions) c.loop-i.i c.loop-i.marks _ c.loop-i.invariant c.if-not-mark_run.ensures
+pub loop-block-preserved : goal.loop-block-preserved
+loop-block-preserved c = one_more (λ b. (get_or c.args.blocks.now b null_block).instructions) c.loop-block.block-index c.loop-block.marks _ c.loop-block.invariant c.if-not-mark_run.ensures
 
 pub returns-then-not-mark_run-2 : goal.returns-then-not-mark_run-2
 returns-then-not-mark_run-2 c =
     let bs = c.args.blocks.now in
-    let j = c.loop-j.j in
-    let ms = c.loop-j.marks in
-    refused (list_or_preds bs) (length bs + j) (length bs + length bs) ms c.loop-j.invariant
+    let j = c.loop-block-2.block-index in
+    let ms = c.loop-block-2.marks in
+    refused (list_or_preds bs) (length bs + j) (length bs + length bs) ms c.loop-block-2.invariant
     (λ u. c.if-not-mark_run-2.ensures (subst (λ (r : Run). Unmarked r ms) (sym (as_preds bs j)) u))
     (omega arith)
 
-pub loop-j-preserved : goal.loop-j-preserved
-loop-j-preserved c =
+pub loop-block-2-preserved : goal.loop-block-2-preserved
+loop-block-2-preserved c =
     let bs = c.args.blocks.now in
-    let j = c.loop-j.j in
-    one_more_as (list_or_preds bs) (length bs + j) (length bs + (j + 1)) (get_or bs j null_block).preds c.loop-j.marks _ (as_preds bs j) (omega arith) c.loop-j.invariant c.if-not-mark_run-2.ensures
+    let j = c.loop-block-2.block-index in
+    one_more_as (list_or_preds bs) (length bs + j) (length bs + (j + 1)) (get_or bs j null_block).preds c.loop-block-2.marks _ (as_preds bs j) (omega arith) c.loop-block-2.invariant c.if-not-mark_run-2.ensures
