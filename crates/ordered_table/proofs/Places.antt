@@ -82,8 +82,8 @@ module _ {K V : Type 0} (e : K → K → Bool) (k : K) where
     | inr l ↦ missing xs l
   ]
 
-  pub told : (xs : List (Entry K V)) → is_some (position (λ x. e x.key k) xs) ≡ among e (keys xs) k
-  told xs = elim (cases_lt (place xs) (length xs)) [
-    | inl l ↦ ap is_some (found xs l) ∙ sym (there xs l).listed
-    | inr l ↦ ap is_some (nothing xs l) ∙ sym (missing xs l).listed
+  pub among_keys : (xs : List (Entry K V)) → among e (keys xs) k ≡ is_some (position (λ x. e x.key k) xs)
+  among_keys xs = elim (cases_lt (place xs) (length xs)) [
+    | inl l ↦ (there xs l).listed ∙ sym (ap is_some (found xs l))
+    | inr l ↦ (missing xs l).listed ∙ sym (ap is_some (nothing xs l))
   ]

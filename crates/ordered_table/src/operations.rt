@@ -48,6 +48,7 @@ impl<'a, K: Key + Copy, V: Copy> OrderedTable<'a, K, V> {
     }
 
     // Is the key in the table?
+    #[tactic(auto, using(crate::proofs::Places::among_keys))]
     pub fn contains_key(&self, key: &K, text: &[u8]) -> bool
         ensures { result ≡ among (K.Key.alike text.now) (keys (entries_of self.now)) key.now }
     {
