@@ -28,10 +28,10 @@ module _ (t : Tables) (w : WellFormed t) (made : Bytes) (room : TextRoom t (leng
   text_size = ap (λ (c : Counts). c.text) (sizes_are t w.counted)
 
   -- the new name spells what was written
-  pub spelt_made : spelt (view (with_text t made)).text (next_name t made) ≡ made
+  spelt_made : spelt (view (with_text t made)).text (next_name t made) ≡ made
   spelt_made = ap (λ (r : Rows). spelt r.text (next_name t made)) (rows_text t w made room) ∙ run_last t.counts.text (length made) (rows t).text made (sym text_size) refl
 
-  pub made_fits : 0 < length made → NameFits (with_text t made).counts (next_name t made)
+  made_fits : 0 < length made → NameFits (with_text t made).counts (next_name t made)
   made_fits h = record { some = h; inside = omega arith }
 
 -- a name of these bytes, taken with them
