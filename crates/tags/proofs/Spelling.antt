@@ -10,9 +10,7 @@ use Rattle.hir.specs.declared.rows.Counts.{Counts}
 use Rattle.hir.specs.Tables.{Tables, with_text, with_tag}
 use Rattle.hir.specs.View.{rows, identifier_view, view}
 use Rattle.hir.specs.WellFormed.{WellFormed}
-use Rattle.names.specs.Made.{TextRoom}
 use Rattle.hir.proofs.Growth.{sizes_are}
-use Rattle.hir.proofs.Laws.{view_text}
 use Rattle.names.proofs.Numbers.{length_numeral_le}
 
 -- _temp
@@ -70,8 +68,6 @@ length_tag n h = elim (cases_eq n 1) [
 abbrev tagged_by : Hir → ℕ → ℕ → Hir
 tagged_by h c n = record { identifiers = h.identifiers; functions = h.functions; bears = h.bears; used_rows = h.used_rows; counter = c; mark = n; text = h.text }
 
-pub view_tag : (t : Tables) (w : WellFormed t) → TextRoom t (length (tag_name (next_tag (view t))))
+pub view_tag : (t : Tables) → view (with_text t (tag_name (next_tag (view t)))) ≡ write (view t) (tag_name (next_tag (view t)))
     → view (with_tag (with_text t (tag_name (next_tag (view t)))) (next_tag (view t))) ≡ take_tag (view t)
-view_tag t w room =
-    let made : Bytes = tag_name (next_tag (view t)) in
-    (λ i. tagged_by (view_text t w made room i) ((view t).counter + 1) (next_tag (view t))) ∙ (λ i. tagged_by (write (view t) made) (add-one (view t).counter i) (next_tag (view t)))
+view_tag t e = (λ i. tagged_by (e i) ((view t).counter + 1) (next_tag (view t))) ∙ (λ i. tagged_by (write (view t) (tag_name (next_tag (view t)))) (add-one (view t).counter i) (next_tag (view t)))

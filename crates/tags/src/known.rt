@@ -2,9 +2,8 @@ ghost use Rattle.std.specs.Prelude.{◌≡◌, [], ◌∷◌};
 ghost use Rattle.rules.specs.Names.{borne, known, names_of};
 ghost use Rattle.hir.specs.Tables.{tables};
 ghost use Rattle.hir.specs.View.{bears_name, identifier_view, instruction_view, rows, view};
-ghost use Rattle.hir.specs.WellFormed.{WellFormed};
 
-use hir::{Identifier, Instruction, Store};
+use hir::{FormedStore, Identifier, Instruction, Store};
 use kinds::ValueKind;
 use names::name_bytes;
 use ordered_table::same_bytes;
@@ -22,27 +21,26 @@ fn row_bears(store: &Store<'_>, row: Instruction, name: &[u8]) -> bool
         && matches!(row.name, Some(own) if same_bytes(name, name_bytes(store, own)))
 }
 
-fn some_identifier_bears(store: &Store<'_>, name: &[u8]) -> bool
-    requires { WellFormed (tables store.now) }
+fn some_identifier_bears(store: &FormedStore<'_>, name: &[u8]) -> bool
     ensures { result ≡ borne name.now (names_of (view (tables store.now)).identifiers) }
 {
-    store.identifiers[..store.counts.identifiers as usize]
+    let lent = &store.lent;
+    lent.identifiers[..lent.counts.identifiers as usize]
         .iter()
-        .any(|identifier| identifier_bears(store, *identifier, name))
+        .any(|identifier| identifier_bears(lent, *identifier, name))
 }
 
-fn some_row_bears(store: &Store<'_>, name: &[u8]) -> bool
-    requires { WellFormed (tables store.now) }
+fn some_row_bears(store: &FormedStore<'_>, name: &[u8]) -> bool
     ensures { result ≡ (view (tables store.now)).bears name.now }
 {
-    store.instructions[..store.counts.instructions as usize]
+    let lent = &store.lent;
+    lent.instructions[..lent.counts.instructions as usize]
         .iter()
-        .any(|row| row_bears(store, *row, name))
+        .any(|row| row_bears(lent, *row, name))
 }
 
 // Does an identifier, or a used row that loads or stores a global, bear the name?
-pub fn is_known(store: &Store<'_>, name: &[u8]) -> bool
-    requires { WellFormed (tables store.now) }
+pub fn is_known(store: &FormedStore<'_>, name: &[u8]) -> bool
     ensures { result ≡ known (view (tables store.now)) name.now }
 {
     some_identifier_bears(store, name) || some_row_bears(store, name)

@@ -3,13 +3,13 @@ ghost use Rattle.rules.specs.Names.{known, next_tag, tag_name};
 ghost use Rattle.rules.specs.Emit.{take_tag};
 ghost use Rattle.hir.specs.Tables.{tables, with_tag, with_text};
 ghost use Rattle.hir.specs.View.{spelt, view};
-ghost use Rattle.hir.specs.WellFormed.{NameFits, WellFormed};
+ghost use Rattle.hir.specs.WellFormed.{NameFits};
 ghost use Rattle.hir.specs.Frame.{Becomes};
 ghost use Rattle.names.specs.Made.{next_name, TextRoom};
 
 use super::known::is_known;
 use arrayvec::ArrayString;
-use hir::{Store, Tag};
+use hir::{FormedStore, Tag};
 use itoa::Buffer;
 use names::append_text;
 
@@ -29,22 +29,21 @@ fn spell_tag(number: u32) -> ArrayString<LONGEST>
 }
 
 // Is the tag of this number borne already?
-fn tag_known(store: &Store<'_>, number: u32) -> bool
-    requires { WellFormed (tables store.now) }
+fn tag_known(store: &FormedStore<'_>, number: u32) -> bool
     ensures { result ≡ known (view (tables store.now)) (tag_name number) }
 {
     is_known(store, spell_tag(number).as_str().as_bytes())
 }
 
 // The number of the next tag: the first above the mark whose tag is free.
-fn next_tag_number(store: &Store<'_>) -> u32
-    requires well { WellFormed (tables store.now) }
-    requires mark { store.now.counts.tag_mark < 2 ^ 31 }
+fn next_tag_number(store: &FormedStore<'_>) -> u32
+    requires { store.now.counts.tag_mark < 2 ^ 31 }
     ensures number { result ≡ next_tag (view (tables store.now)) }
     ensures bound { result ≤ store.now.counts.tag_mark + 131072 }
 {
-    let first = store.counts.tag_mark + 1;
-    let last = first + store.counts.identifiers + store.counts.instructions + 1;
+    let counts = store.lent.counts;
+    let first = counts.tag_mark + 1;
+    let last = first + counts.identifiers + counts.instructions + 1;
     (first..last)
         .find(|number| !tag_known(store, *number))
         .unwrap_or(last)
@@ -52,8 +51,7 @@ fn next_tag_number(store: &Store<'_>) -> u32
 
 // Takes the next tag (the Rust's name for it): the first of `_temp`, `_temp2`, `_temp3`, .. above the mark that nothing bears. It must be put on a
 // function or abandoned.
-pub fn generate_globally_unique_identifier_name(store: &mut Store<'_>) -> Tag
-    requires well { WellFormed (tables store.old) }
+pub fn generate_globally_unique_identifier_name(store: &mut FormedStore<'_>) -> Tag
     requires room { TextRoom (tables store.old) 15 }
     requires mark { store.old.counts.tag_mark < 2 ^ 31 }
     requires counter { store.old.counts.tag_counter < 2 ^ 32 - 1 }
@@ -65,5 +63,5 @@ pub fn generate_globally_unique_identifier_name(store: &mut Store<'_>) -> Tag
 {
     let number = next_tag_number(store);
     let name = append_text(store, spell_tag(number).as_str().as_bytes());
-    store.counts.take_tag(number, name)
+    store.lent.counts.take_tag(number, name)
 }

@@ -11,13 +11,16 @@ use Rattle.names.proofs.made.spell_renamed.Goals as goal
 
 pub returns-clause-writes : goal.returns-clause-writes
 returns-clause-writes c =
-    let s = c.args.store.now in
+    let s = c.store.inside.lent in
+    let w = c.store.invariant in
+    let fits = rw (← c.store.view_is) at c.requires.fits in
+    let room = rw (← c.store.view_is) at c.requires.room in
     let b = c.args.base in
     let text = s.text.now in
     let own : Bytes = spelt (view (tables s)).text b in
     let k = numeral c.args.number in
-    let size : length own ≡ b.len = length_spelt (tables s) c.requires.well b c.requires.fits in
-    let is : own ≡ take (length own) (drop b.start text) = spelt_in (tables s) c.requires.well b c.requires.fits ∙ ap (λ n. take n (drop b.start text)) (sym size) in
+    let size : length own ≡ b.len = length_spelt (tables s) w b fits in
+    let is : own ≡ take (length own) (drop b.start text) = spelt_in (tables s) w b fits ∙ ap (λ n. take n (drop b.start text)) (sym size) in
     let copy = c.copy_within.ensures.after ∙ ap (λ n. paste text s.counts.text (drop b.start text) (b.start + n - b.start)) (sym size) ∙ moved text b.start s.counts.text own is in
-    let written = c.write_decimal-end.ensures.text ∙ (λ i. paste (copy i) (s.counts.text + sym size i) k (length k)) ∙ pasted_both text s.counts.text (length own) own k refl (omega (arith, c.requires.room.in_table)) in
-    ap (hold_text (tables s) s.counts) written
+    let written = c.write_decimal-end.ensures.text ∙ (λ i. paste (copy i) (s.counts.text + sym size i) k (length k)) ∙ pasted_both text s.counts.text (length own) own k refl (omega (arith, room.in_table)) in
+    rw (← c.store.view_is) (ap (hold_text (tables s) s.counts) written)

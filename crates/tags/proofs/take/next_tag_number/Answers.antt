@@ -11,5 +11,8 @@ pub returns-clause-number : goal.returns-clause-number
 returns-clause-number c =
     let s = c.args.store.now in
     let names = known (view (tables s)) in
+    let w = rw c.store.view_is at c.store.invariant in
     let found = first_from_Range _ _ _ c.find.result (λ n. names (tag_name n) ≡ false) (λ n. names (tag_name n) ≡ true) c.find.ensures.ran (λ x q k. search (rules, tests)) (λ x q k. search (rules, tests)) in
-    c.unwrap_or.ensures ∙ sym (first_free (s.counts.identifiers + s.counts.instructions + 1) names (s.counts.tag_mark + 1) _ c.find.result (omega arith) found) ∙ tries_first (tables s) c.requires.well
+    let first = rw c.store.view_is at found in
+    let answer = rw c.store.view_is at c.unwrap_or.ensures in
+    answer ∙ sym (first_free (s.counts.identifiers + s.counts.instructions + 1) names (s.counts.tag_mark + 1) _ c.find.result (omega arith) first) ∙ tries_first (tables s) w
