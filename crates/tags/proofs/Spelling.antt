@@ -1,5 +1,5 @@
 -- The bytes of a tag.
-use Rattle.std.proofs.Common.{◌≡◌, ℕ, zero, suc, ◌+◌, ◌^◌, ◌<◌, ◌≤◌, Bool, true, false, cond, [], ◌∷◌, ◌++◌, length, Some, None, Option, sym, ap, ◌∙◌, subst, inl, inr, add-one, arith, length-append, eq-eqb, ne_eqb}
+use Rattle.std.proofs.Common.{◌≡◌, ℕ, zero, suc, ◌+◌, ◌<◌, ◌≤◌, Bool, true, false, cond, [], ◌∷◌, ◌++◌, length, Some, None, Option, sym, ap, ◌∙◌, subst, inl, inr, add-one, arith, eq-eqb, ne_eqb}
 use Rattle.std.specs.Option.{MatchOption, unwrap_or}
 use Rattle.rules.specs.Views.{Bytes, Hir, write}
 use Rattle.rules.specs.Emit.{take_tag}
@@ -11,7 +11,6 @@ use Rattle.hir.specs.Tables.{Tables, with_text, with_tag}
 use Rattle.hir.specs.View.{rows, identifier_view, view}
 use Rattle.hir.specs.WellFormed.{WellFormed}
 use Rattle.hir.proofs.Growth.{sizes_are}
-use Rattle.names.proofs.Numbers.{length_numeral_le}
 
 -- _temp
 abbrev temp : Bytes
@@ -57,12 +56,6 @@ tries_first t w =
     let i : t.counts.identifiers ≡ length (view t).identifiers = sym (ap (λ (c : Counts). c.identifiers) sized) ∙ sym (length-map (rows t).identifiers (identifier_view (view t).text)) in
     let r : t.counts.instructions ≡ (view t).used_rows = sym (ap (λ (c : Counts). c.instructions) sized) in
     (λ k. free_tag (i k + r k + 1) (known (view t)) (t.counts.tag_mark + 1)) ∙ (λ k. free_tag (add-one (length (view t).identifiers + (view t).used_rows) k) (known (view t)) (add-one t.counts.tag_mark k))
-
-pub length_tag : (n : ℕ) → n < 2 ^ 32 → length (tag_name n) ≤ 15
-length_tag n h = elim (cases_eq n 1) [
-  | inl e ↦ let l = ap length (tag_first n e) in omega arith
-  | inr e ↦ let l = ap length (tag_later n e) in let k = length-append temp (numeral n) in let m = length_numeral_le n h in omega arith
-]
 
 -- the view with one tag more
 abbrev tagged_by : Hir → ℕ → ℕ → Hir
