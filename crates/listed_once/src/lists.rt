@@ -29,7 +29,7 @@ pub fn rows_once(blocks: &[BasicBlock], numbers: &[u32], marks: &mut [u8]) -> bo
     true
 }
 
-// Lists name used rows, and predecessors used blocks.
+// Lists name used rows, and predecessors used blocks. No `all`, since what `run_below` asks holds of these blocks alone.
 pub fn lists_named(blocks: &[BasicBlock], numbers: &[u32], rows: u32, used: u32) -> bool
     requires lists { (b : ℕ) → b < length blocks.now → RunFits (slice_index_or blocks.now b null_block).instructions (length numbers.now) }
     requires preds { (b : ℕ) → b < length blocks.now → RunFits (slice_index_or blocks.now b null_block).preds (length numbers.now) }
