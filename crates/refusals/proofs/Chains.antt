@@ -1,23 +1,22 @@
 -- Chains over a slice, and over the numbers of a function's blocks: what their closures may be called at, and what `all` and `any` then tell.
-use Rattle.std.proofs.Common.{◌≡◌, ℕ, ◌<◌, Bool, true, false, not, List, [], ◌∷◌, map, length, get_or, Bor, Iter, Option, MatchBool, sym, subst, arith}
+use Rattle.std.proofs.Common.{◌≡◌, ℕ, ◌<◌, Bool, true, false, not, List, [], ◌∷◌, map, length, get_or, Option, MatchBool, sym, subst, arith}
 use Rattle.std.specs.Fn.{Called}
 use Rattle.std.specs.List.{AllByRecursion, AllWithin, HoldsAt, range_with_len}
 use Rattle.std.specs.Iterator.{CallableAtEachTurn, ChecksAll, ChecksAny}
 use Rattle.std.specs.declared.ops.Range.{Range}
-use Rattle.std.specs.Slice.Iter.{iter_rest}
-use Rattle.std.proofs.iter.Yields.{fronts, nat_range_steps}
+use Rattle.std.proofs.iter.Yields.{nat_range_steps}
 use Rattle.std.proofs.ByRecursion.{All-get_or, All-from_get_or, All-map}
 use Rattle.std.proofs.lemmas.List.{get_or-map, length-map}
 use Rattle.std.proofs.lemmas.List.FromFn.{length-range_with_len, get_or-range_with_len}
-use Rattle.std.proofs.lemmas.Iterator.{YieldsList, YieldsList-from_slice, YieldsList-from_range, cases_from_all, cases_from_any}
+use Rattle.std.proofs.lemmas.Iterator.{YieldsList, YieldsList-from_range, cases_from_all, cases_from_any}
 use Rattle.std.proofs.lemmas.Iterator.Adapters.{serves_from_places}
 use denote.Param.Members.{Mut}
 use Rattle.rules.specs.Views.{InstructionV, BlockV, block_rows}
 use Rattle.refusals.proofs.Blocks.{all_blocks, each_block}
 
 -- what each item has may be asked of it, by a closure that stays as it was
-pub called_at_each : {A F : Type 0} (P : A → Type 0) (xs : List A) → AllByRecursion P xs → {s : Iter A} → iter_rest s ≡ xs → {R : F → Bor A → F → Type 0} {Q : F → Bor A → Type 0} {f : F} → ((x : Bor A) (q : F) → R f x q → q ≡ f) → ((x : Bor A) → P x.now → Q f x) → CallableAtEachTurn fronts R Q s f
-called_at_each P xs a e keeps may = serves_from_places (YieldsList-from_slice xs e) keeps (λ x k h i. may x (subst P (sym i) (All-get_or P xs k x.now h a)))
+pub called_at_each : {S A B F : Type 0} {steps : S → Option A → S → Type 0} {v : A → B} {s : S} (P : B → Type 0) (xs : List B) → AllByRecursion P xs → YieldsList steps v s xs → {R : F → A → F → Type 0} {Q : F → A → Type 0} {f : F} → ((x : A) (q : F) → R f x q → q ≡ f) → ((x : A) → P (v x) → Q f x) → CallableAtEachTurn steps R Q s f
+called_at_each {v = v} P xs a road keeps may = serves_from_places road keeps (λ x k h i. may x (subst P (sym i) (All-get_or P xs k (v x) h a)))
 
 module _ {B C : Type 0} (P : C → Type 0) (h : B → C) where
   all_of : (xs : List B) → ((k : ℕ) (d : B) → k < length xs → P (h (get_or xs k d))) → AllByRecursion P (map h xs)

@@ -11,7 +11,7 @@ use Rattle.key_children.proofs.block_keyless.Goals as goal
 pub all-requires-clause-callable : goal.all-requires-clause-callable
 all-requires-clause-callable c =
     let l = c.list-list.result in
-    called_at_each (λ n. n < l.store.now.counts.instructions) l.numbers.now l.listed (cc) (λ x q h. search rules) (λ x f. search rules)
+    called_at_each (λ n. n < l.store.now.counts.instructions) l.numbers.now l.listed (YieldsList-from_slice l.numbers.now cc) (λ x q h. search rules) (λ x f. search rules)
 
 pub returns : goal.returns
 returns c =

@@ -14,7 +14,7 @@ element_told h i true e a = λ _. a
 element_told h i false e n = λ k. n (k e)
 
 pub any-requires-clause-callable : goal.any-requires-clause-callable
-any-requires-clause-callable c = called_at_each (PlaceFits c.args.list.store.now.counts) c.places-places.result.now c.places-places.ensures.fit (cc) (λ x q h. search rules) (λ x f. search f.identifier)
+any-requires-clause-callable c = called_at_each (PlaceFits c.args.list.store.now.counts) c.places-places.result.now c.places-places.ensures.fit (YieldsList-from_slice c.places-places.result.now cc) (λ x q h. search rules) (λ x f. search f.identifier)
 
 pub returns : goal.returns
 returns c =
