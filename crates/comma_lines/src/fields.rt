@@ -5,6 +5,7 @@ use hir::{
     BasicBlock, FunctionId, HirFunction, Identifier, IdentifierId, IdentifierName, Instruction,
     Name, Place, Run,
 };
+use kinds::{BlockKind, Effect, FunctionType, Role, Terminal, ValueKind};
 use std::str::Split;
 
 // The fields of one line that are still to be read, and the text that names are added to.
@@ -53,10 +54,11 @@ impl<'t, 'l> Fields<'t, 'l> {
         }
     }
 
-    fn small(&mut self, field: &'static str, max: u8) -> Result<u8, Fault>
-        ensures { IfOk result (λ n. n ≤ max) }
+    // The number of a kind, from that of the first to that of the last.
+    fn kind(&mut self, field: &'static str, first: u8, last: u8) -> Result<u8, Fault>
+        ensures { IfOk result (λ n. (first ≤ n) × (n ≤ last)) }
     {
-        Ok(self.between(field, 0, max as u64)? as u8)
+        Ok(self.between(field, first as u64, last as u64)? as u8)
     }
 
     fn bit(&mut self, field: &'static str) -> Result<bool, Fault> {
@@ -89,7 +91,7 @@ impl<'t, 'l> Fields<'t, 'l> {
 
     // 0 and no name, or 1 for Named or 2 for Promoted and the name.
     fn identifier_name(&mut self) -> Result<Option<IdentifierName>, ReadError> {
-        let kind = self.small("the kind of the identifier's name", 2)?;
+        let kind = self.between("the kind of the identifier's name", 0, 2)?;
         let field = "the identifier's name";
         match (kind, self.name(field)?) {
             (0, None) => Ok(None),
@@ -109,10 +111,14 @@ impl<'t, 'l> Fields<'t, 'l> {
 
     pub fn place(&mut self) -> Result<Place, ReadError> {
         Ok(Place {
-            role: self.small("the place's role", 5)?,
+            role: self.kind("the place's role", Role::Read as u8, Role::Written as u8)?,
             name: self.name("the place's name")?,
             identifier: IdentifierId(self.word("the place's identifier")?),
-            effect: self.small("the place's effect", 7)?,
+            effect: self.kind(
+                "the place's effect",
+                Effect::Unknown as u8,
+                Effect::Store as u8,
+            )?,
             reactive: self.bit("the place's reactive bit")?,
             span: self.word("the place's span")?,
         })
@@ -121,7 +127,11 @@ impl<'t, 'l> Fields<'t, 'l> {
     pub fn instruction(&mut self) -> Result<Instruction, ReadError> {
         Ok(Instruction {
             order: self.word("the order")?,
-            kind: self.small("the kind", 42)?,
+            kind: self.kind(
+                "the kind",
+                ValueKind::Phi as u8,
+                ValueKind::FinishMemoize as u8,
+            )?,
             result: self.place()?,
             name: self.name("the row's name")?,
             detail: self.between("the detail", 0, u64::MAX)?,
@@ -136,8 +146,16 @@ impl<'t, 'l> Fields<'t, 'l> {
 
     pub fn block(&mut self) -> Result<BasicBlock, ReadError> {
         Ok(BasicBlock {
-            kind: self.small("the block's kind", 4)?,
-            terminal: self.between("the terminal", 1, 21)? as u8,
+            kind: self.kind(
+                "the block's kind",
+                BlockKind::Block as u8,
+                BlockKind::Catch as u8,
+            )?,
+            terminal: self.kind(
+                "the terminal",
+                Terminal::Unreachable as u8,
+                Terminal::PrunedScope as u8,
+            )?,
             detail: self.word("the terminal's detail")?,
             places: self.run("the first terminal place", "the count of terminal places")?,
             instructions: self.run("the first list number", "the count of rows")?,
@@ -147,7 +165,11 @@ impl<'t, 'l> Fields<'t, 'l> {
 
     pub fn function(&mut self) -> Result<HirFunction, ReadError> {
         Ok(HirFunction {
-            fn_type: self.small("the function's type", 2)?,
+            fn_type: self.kind(
+                "the function's type",
+                FunctionType::Component as u8,
+                FunctionType::Other as u8,
+            )?,
             blocks: self.run("the first block", "the count of blocks")?,
             params: self.run("the first parameter", "the count of parameters")?,
             context: self.run("the first context place", "the count of context places")?,
