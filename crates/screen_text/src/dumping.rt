@@ -1,5 +1,3 @@
-ghost use Rattle.std.specs.Iterator.{IsFinite};
-
 use super::print_error::PrintError;
 use super::printer::Printer;
 use hir::{BasicBlock, Identifier, IdentifierId, IdentifierName, Instruction, Place, Run, Store};
@@ -25,9 +23,9 @@ impl Printer<'_> {
         write!(self.out, "function {number} type={} tag=", function.fn_type)?;
         self.put_name(function.tag)?;
         write!(self.out, " appended={} params=[", function.appended as u8)?;
-        self.dump_run(function.params)?;
+        self.dump_places(function.params)?;
         write!(self.out, "] context=[")?;
-        self.dump_run(function.context)?;
+        self.dump_places(function.context)?;
         write!(self.out, "] returns=")?;
         self.dump_place(&function.returns)?;
         writeln!(self.out)?;
@@ -43,9 +41,9 @@ impl Printer<'_> {
             "block {k} kind={} terminal={} detail={} tplaces=[",
             block.kind, block.terminal, block.detail
         )?;
-        self.dump_run(block.places)?;
+        self.dump_places(block.places)?;
         write!(self.out, "] preds=[")?;
-        self.dump_numbers(block.preds)?;
+        self.put_list(self.numbers(block.preds)?.iter(), " ", Printer::dump_number)?;
         writeln!(self.out, "]")?;
         for number in self.numbers(block.instructions)? {
             self.dump_row(self.row(*number)?)?;
@@ -71,7 +69,7 @@ impl Printer<'_> {
         let places = self.places(row.places)?;
         let reads = places.iter().filter(|place| place.is_read());
         let writes = places.iter().filter(|place| !place.is_read());
-        self.dump_places(reads.chain(writes).copied())?;
+        self.put_list(reads.chain(writes), " ", Printer::dump_place)?;
         writeln!(
             self.out,
             "] span={} opening={} closing={} effects={}",
@@ -97,29 +95,12 @@ impl Printer<'_> {
         Ok(())
     }
 
-    fn dump_run(&mut self, run: Run) -> Result<(), PrintError> {
-        self.dump_places(self.places(run)?.iter().copied())
+    fn dump_places(&mut self, run: Run) -> Result<(), PrintError> {
+        self.put_list(self.places(run)?.iter(), " ", Printer::dump_place)
     }
 
-    fn dump_places<I: Iterator<Item = Place> + Drop>(&mut self, places: I) -> Result<(), PrintError>
-        requires can { I.can_next places }
-        requires ends { IsFinite (I.remaining places) }
-    {
-        let mut separator = "";
-        for place in places {
-            write!(self.out, "{separator}")?;
-            self.dump_place(&place)?;
-            separator = " ";
-        }
-        Ok(())
-    }
-
-    fn dump_numbers(&mut self, run: Run) -> Result<(), PrintError> {
-        let mut separator = "";
-        for number in self.numbers(run)? {
-            write!(self.out, "{separator}{number}")?;
-            separator = " ";
-        }
+    fn dump_number(&mut self, number: &u32) -> Result<(), PrintError> {
+        write!(self.out, "{number}")?;
         Ok(())
     }
 

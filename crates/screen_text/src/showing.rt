@@ -184,13 +184,7 @@ impl Printer<'_> {
     }
 
     fn show_list(&mut self, run: Run) -> Result<(), PrintError> {
-        let mut separator = "";
-        for place in self.places(run)? {
-            write!(self.out, "{separator}")?;
-            self.show_place(place)?;
-            separator = ", ";
-        }
-        Ok(())
+        self.put_list(self.places(run)?.iter(), ", ", Printer::show_place)
     }
 
     // `name=` before the identifier of a named place, and three points before a spread.
