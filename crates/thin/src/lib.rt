@@ -26,11 +26,14 @@ pub trait Keeps {
     ghost ready: { Self → Counts → Type 0 };
 
     fn keeps(&self, store: &Store<'_>, row: InstructionId) -> bool
-        requires { (Readable (tables store.now)) × ((row.0 < store.now.counts.instructions) × (ready self.now store.now.counts)) }
+        requires readable { Readable (tables store.now) }
+        requires used { row.0 < store.now.counts.instructions }
+        requires ready { ready self.now store.now.counts }
         ensures { result ≡ test self.now (instruction_at (rows (tables store.now)) row.0) };
 }
 
-// Moves the numbers of the rows that stay to the front of the run, and answers how many there are.
+// Moves the numbers of the rows that stay to the front of the run, and answers how many there are. Each row is asked about with the whole
+// store, so the loop goes over the table's indices: an iterator over the run would hold the table.
 fn gather_kept<K: Keeps>(store: &mut Store<'_>, run: Run, keep: &K) -> u32
     requires readable { Readable (tables store.old) }
     requires fits { run.first + run.count ≤ length store.old.numbers.now }
@@ -42,16 +45,15 @@ fn gather_kept<K: Keeps>(store: &mut Store<'_>, run: Run, keep: &K) -> u32
     ensures held { Held store.new store.old }
 {
     let first = run.first as usize;
-    let count = run.count as usize;
-    let mut front = 0usize;
-    for i in 0..count {
-        let row = store.numbers[first + i];
+    let mut end = first;
+    for i in first..first + run.count as usize {
+        let row = store.numbers[i];
         if keep.keeps(store, InstructionId(row)) {
-            store.numbers[first + front] = row;
-            front += 1;
+            store.numbers[end] = row;
+            end += 1;
         }
     }
-    front as u32
+    (end - first) as u32
 }
 
 fn write_thinned<K: Keeps>(store: &mut Store<'_>, function: FunctionId, k: u32, keep: &K)

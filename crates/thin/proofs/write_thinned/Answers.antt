@@ -7,7 +7,7 @@ use Rattle.hir.specs.Tables.{Tables, tables, over_block}
 use Rattle.hir.specs.View.{null_block}
 use Rattle.hir.specs.Lists.{block_number, block_of, listing_run, with_thinned_list}
 use Rattle.hir.proofs.Listed.{block_used, block_fits_at}
-use Rattle.hir.proofs.Seen.{readable, list_listed}
+use Rattle.hir.proofs.Seen.{readable, legible, list_listed}
 use Rattle.thin.specs.Kept.{kept_of, rewritten}
 use Rattle.thin.proofs.Thinned.{list_whole}
 use Rattle.thin.proofs.write_thinned.Goals as goal
@@ -31,7 +31,7 @@ gather_kept-count-requires g c =
       readable = readable t w;
       fits = omega (arith, o.instructions, w.counted.numbers.in_table);
       small = omega (arith, o.instructions, w.counted.numbers.in_limit);
-      listed = subst (AllByRecursion (λ n. n < t.counts.instructions)) (list_whole (g.K.Keeps.test c.args.keep.now) t w c.args.function.0 c.args.k c.requires.has) (list_listed t w c.args.function.0 c.args.k c.requires.has);
+      listed = subst (AllByRecursion (λ n. n < t.counts.instructions)) (list_whole (g.K.Keeps.test c.args.keep.now) t w c.args.function.0 c.args.k c.requires.has) (list_listed t (legible t w) c.args.function.0 c.requires.has.function c.args.k c.requires.has.block);
       ready = c.requires.ready;
     }
 
