@@ -17,7 +17,8 @@ ghost use Rattle.thin.specs.Kept.{kept_numbers, kept_of, rewritten};
 
 use hir::{FunctionId, InstructionId, Run, Store};
 
-// What decides of each row whether it stays.
+// What decides of each row whether it stays. A trait and no closure: a clause names the test of each implementor, where of a closure it
+// knows only what the calls answered.
 pub trait Keeps {
     // the rows that stay
     ghost test: { Self → InstructionV → Bool };
@@ -56,6 +57,7 @@ fn gather_kept<K: Keeps>(store: &mut Store<'_>, run: Run, keep: &K) -> u32
     (end - first) as u32
 }
 
+#[tactic(auto, using(hir::proofs::Listed::block_used))]
 fn write_thinned<K: Keeps>(store: &mut Store<'_>, function: FunctionId, k: u32, keep: &K)
     requires well { WellFormed (tables store.old) }
     requires has { HasBlock (tables store.old) function.0 k }
