@@ -24,7 +24,8 @@ use Rattle.thin.proofs.Thinned.{thinned_short}
 use Rattle.dead_code_elimination.specs.Elimination.{Outside, OnlyLists, Eliminates}
 use Rattle.dead_code_elimination.proofs.Same.{only_same}
 use Rattle.sweep.specs.Marks.{is_marked, kept_by, by_marks}
-use Rattle.sweep.proofs.Reading.{blocks_count, functions_seen}
+use Rattle.hir.proofs.Seen.{legible, blocks_counted}
+use Rattle.sweep.proofs.Reading.{functions_seen}
 use Rattle.sweep.proofs.Thinning.{lists_long, lists_at, listing_past, relisted, relisted_more, relisted_none, relisted_blocks, paste_outside}
 
 -- the first k lists are done; the blocks from k on are as they were
@@ -46,7 +47,7 @@ module _ (t : Tables) (w : WellFormed t) (f : ℕ) (used : f < t.counts.function
   count = (get_or t.functions f null_function).blocks.count
 
   bs_long : length bs ≡ count
-  bs_long = blocks_count t w f used
+  bs_long = blocks_counted t (legible t w) f used
 
   pub start : Progress t marks f 0 t
   start = record { seen = relisted_none (view t) f; well = w; kept = kept_same t; only = only_same t f; later = λ j h. refl }

@@ -3,7 +3,7 @@ use Rattle.std.specs.Prelude.{◌≡◌, ℕ, zero, suc, ◌+◌, ◌<◌, Bool,
 use Rattle.std.specs.List.{AllByRecursion}
 use Rattle.rules.specs.Lists.{any, select, Lists}
 use Rattle.rules.specs.Kinds.{acts}
-use Rattle.rules.specs.Views.{InstructionV, BlockV, acting, function_at, identifiers_of, reads, rows_of, writes}
+use Rattle.rules.specs.Views.{PlaceV, InstructionV, BlockV, acting, function_at, identifiers_of, reads, rows_of, writes}
 use Rattle.rules.specs.Eliminations.{Meaning, kept, lists, needed, sweep_keeps}
 use Rattle.hir.specs.declared.rows.Place.{Place}
 use Rattle.hir.specs.declared.rows.Instruction.{Instruction}
@@ -71,6 +71,12 @@ all_passed marks (i ∷ is) = passed (all_passed marks is) i
 abbrev pub round_passed : List ℕ → List BlockV → List ℕ
 round_passed marks [] = marks
 round_passed marks (b ∷ bs) = all_passed (round_passed marks bs) b.rows
+
+-- the places of the k-th block's terminal
+abbrev pub terminal_at : List BlockV → ℕ → List PlaceV
+terminal_at [] k = []
+terminal_at (b ∷ bs) zero = b.places
+terminal_at (b ∷ bs) (suc k) = terminal_at bs k
 
 -- What the terminals read, from the last block to the first.
 abbrev pub terminals_marked : List ℕ → List BlockV → List ℕ

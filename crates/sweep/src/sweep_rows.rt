@@ -6,6 +6,7 @@ use super::thin_lists::thin_lists;
 use super::wipe::Wipe;
 use dead_code_elimination::Elimination;
 use hir::{FunctionId, Store};
+use reading::StoredFunction;
 
 // Keeps the rows that act, and those that write what a terminal or a kept row reads.
 #[derive(Clone, Copy)]
@@ -18,7 +19,7 @@ impl Elimination for Sweep {
 
     fn eliminate(&self, store: &mut Store<'_>, function: FunctionId, marks: &mut [u8]) {
         let guard = Wipe { marks };
-        mark_needed(store, guard.marks, function);
+        mark_needed(StoredFunction { store, id: function }, guard.marks);
         thin_lists(store, guard.marks, function);
     }
 }
