@@ -1,5 +1,5 @@
 -- Marks: one more, several more, and how many are left.
-use Rattle.std.proofs.Common.{◌≡◌, ℕ, zero, suc, ◌+◌, ◌<◌, ◌≤◌, Bool, true, false, not, ◌&&◌, ◌||◌, eqb, leb, List, [], ◌∷◌, ◌++◌, length, get_or, drop, set, sym, refl, ap, ◌∙◌, arith, length-set}
+use Rattle.std.proofs.Common.{◌≡◌, ℕ, zero, suc, ◌+◌, ◌<◌, ◌≤◌, true, false, not, ◌&&◌, ◌||◌, eqb, leb, List, [], ◌∷◌, ◌++◌, length, get_or, set, sym, refl, ap, ◌∙◌, arith, length-set}
 use Rattle.std.specs.List.{list_any}
 use Rattle.std.proofs.lemmas.Bool.{eq-eqb, ne_eqb}
 use Rattle.rules.specs.Lists.{any, select}
@@ -45,26 +45,26 @@ pub reads_more : (marks : List ℕ) (ps : List Place) (p : Place) → leb p.role
 reads_more marks [] p e = ap (λ b. with_marks marks (ids (elim b as (λ _. List Place) [ true ↦ p ∷ [] | false ↦ [] ]))) e
 reads_more marks (q ∷ ps) p e = elim (leb q.role 4) as (λ b. with_marks marks (ids (elim b as (λ _. List Place) [ true ↦ q ∷ select (λ (r : Place). leb r.role 4) (ps ++ p ∷ []) | false ↦ select (λ (r : Place). leb r.role 4) (ps ++ p ∷ []) ]))
     ≡ with_mark (with_marks marks (ids (elim b as (λ _. List Place) [ true ↦ q ∷ select (λ (r : Place). leb r.role 4) ps | false ↦ select (λ (r : Place). leb r.role 4) ps ]))) p.identifier.0) [
-  | true ↦ reads_more (with_mark marks q.identifier.0) ps p e
-  | false ↦ reads_more marks ps p e
-]
+      | true ↦ reads_more (with_mark marks q.identifier.0) ps p e
+      | false ↦ reads_more marks ps p e
+    ]
 
 pub reads_same : (marks : List ℕ) (ps : List Place) (p : Place) → leb p.role 4 ≡ false → with_marks marks (ids_read (ps ++ p ∷ [])) ≡ with_marks marks (ids_read ps)
 reads_same marks [] p e = ap (λ b. with_marks marks (ids (elim b as (λ _. List Place) [ true ↦ p ∷ [] | false ↦ [] ]))) e
 reads_same marks (q ∷ ps) p e = elim (leb q.role 4) as (λ b. with_marks marks (ids (elim b as (λ _. List Place) [ true ↦ q ∷ select (λ (r : Place). leb r.role 4) (ps ++ p ∷ []) | false ↦ select (λ (r : Place). leb r.role 4) (ps ++ p ∷ []) ]))
     ≡ with_marks marks (ids (elim b as (λ _. List Place) [ true ↦ q ∷ select (λ (r : Place). leb r.role 4) ps | false ↦ select (λ (r : Place). leb r.role 4) ps ]))) [
-  | true ↦ reads_same (with_mark marks q.identifier.0) ps p e
-  | false ↦ reads_same marks ps p e
-]
+      | true ↦ reads_same (with_mark marks q.identifier.0) ps p e
+      | false ↦ reads_same marks ps p e
+    ]
 
 -- written places among which one is marked
 pub any_written : (marks : List ℕ) (ps : List Place) → list_any (λ (p : Place). eqb p.role 5 && is_marked marks p.identifier.0) ps ≡ any (is_marked marks) (ids_written ps)
 any_written marks [] = refl
 any_written marks (p ∷ ps) = elim (eqb p.role 5) as (λ b. (b && is_marked marks p.identifier.0 || list_any (λ (q : Place). eqb q.role 5 && is_marked marks q.identifier.0) ps)
     ≡ any (is_marked marks) (ids (elim b as (λ _. List Place) [ true ↦ p ∷ select (λ (q : Place). eqb q.role 5) ps | false ↦ select (λ (q : Place). eqb q.role 5) ps ]))) [
-  | true ↦ ap (λ b. is_marked marks p.identifier.0 || b) (any_written marks ps)
-  | false ↦ any_written marks ps
-]
+      | true ↦ ap (λ b. is_marked marks p.identifier.0 || b) (any_written marks ps)
+      | false ↦ any_written marks ps
+    ]
 
 pub is_marked_not : (marks : List ℕ) (x : ℕ) → get_or marks x 0 ≡ 0 → is_marked marks x ≡ false
 is_marked_not marks x h = ap not (eq-eqb (get_or marks x 0) 0 h)

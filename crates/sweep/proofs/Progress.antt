@@ -105,7 +105,7 @@ module _ (t : Tables) (w : WellFormed t) (f : ℕ) (used : f < t.counts.function
     listed_was : rows_at (view u) f k ≡ get_or (lists bs) k []
     listed_was =
         ap (λ (x : Hir). rows_at x f k) g.seen
-        ∙ ap (λ (cs : List BlockV). block_rows cs k) (relisted_blocks (view t) f ls (omega (arith, functions_seen t w f used)))
+        ∙ ap (λ (cs : List BlockV). block_rows cs k) (relisted_blocks (view t) f ls (omega (arith, functions_seen t (legible t w))))
         ∙ listing_past bs ls k (omega (arith, ls_long))
         ∙ lists_at bs k
 
@@ -161,4 +161,4 @@ module _ (t : Tables) (w : WellFormed t) (f : ℕ) (used : f < t.counts.function
 
 pub all_done : (before after : Store) (w : WellFormed (tables before)) (f : ℕ) (used : f < (tables before).counts.functions) (marks : List ℕ) (wide : (tables before).counts.identifiers ≤ length marks)
     → Progress (tables before) marks f (get_or (tables before).functions f null_function).blocks.count (tables after) → Held after before → Eliminates (by_marks marks) before after f
-all_done before after w f used marks wide g held = record { seen = all_seen (tables before) w f used marks wide (tables after) g; well = g.well; kept = g.kept; only = g.only; held = held }
+all_done before after w f used marks wide g held = record { seen = all_seen (tables before) w f used marks wide (tables after) g; kept = g.kept; only = g.only; held = held }

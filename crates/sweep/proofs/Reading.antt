@@ -1,5 +1,5 @@
 -- Rows and places as the tables have them, and as they are seen.
-use Rattle.std.proofs.Common.{◌≡◌, ℕ, zero, suc, ◌+◌, ◌-◌, ◌<◌, ◌≤◌, Bool, true, false, eqb, leb, List, [], ◌∷◌, ◌++◌, map, reverse, Bor, length, get_or, drop, sym, refl, ap, ◌∙◌, subst, inl, inr, arith, get_or-take}
+use Rattle.std.proofs.Common.{◌≡◌, ℕ, zero, suc, ◌+◌, ◌-◌, ◌<◌, ◌≤◌, Bool, true, false, eqb, leb, List, [], ◌∷◌, ◌++◌, map, reverse, Bor, length, get_or, take, drop, sym, refl, ap, ◌∙◌, subst, inl, inr, arith, get_or-take}
 use lib.ListN.{length-map}
 use Rattle.std.proofs.lemmas.List.{at_drop_more, get_or-map, map-append, reverse-append}
 use Rattle.std.specs.List.{AllByRecursion}
@@ -9,22 +9,22 @@ use Rattle.rules.proofs.Membership.{In, in_cases, lists_none, lists_head, lists_
 use Rattle.rules.proofs.Positions.{map_lists}
 use Rattle.std.proofs.lemmas.Bool.{or_cases, both_ways, eqb-true}
 use Rattle.rules.specs.Kinds.{acts}
-use Rattle.rules.specs.Views.{Bytes, PlaceV, InstructionV, BlockV, FunctionV, identifiers_of, is_read, is_written, reads, rows_of, block_rows, writes, function_at, no_function}
+use Rattle.rules.specs.Views.{Bytes, PlaceV, InstructionV, BlockV, FunctionV, identifiers_of, is_read, is_written, reads, rows_of, block_rows, writes, function_at}
 use Rattle.rules.specs.Eliminations.{sweep_keeps, terminal_reads}
 use Rattle.hir.specs.declared.rows.Run.{Run}
 use Rattle.hir.specs.declared.rows.Counts.{Counts}
 use Rattle.hir.specs.declared.rows.Place.{Place}
 use Rattle.hir.specs.declared.rows.Instruction.{Instruction}
 use Rattle.hir.specs.declared.rows.BasicBlock.{BasicBlock}
-use Rattle.hir.specs.declared.rows.HirFunction.{HirFunction}
 use Rattle.hir.specs.Used.{in_run}
 use Rattle.hir.specs.Tables.{Tables}
 use Rattle.hir.specs.View.{rows, view, null_instruction, null_block, null_function, place_view, instruction_at, block_view, function_view}
-use Rattle.hir.specs.WellFormed.{RunFits, PlaceFits, BlockFits, FunctionFits, Readable, WellFormed}
-use Rattle.hir.proofs.Runs.{run_used, length_run, getD_run, covered}
+use Rattle.hir.specs.WellFormed.{RunFits, PlaceFits, BlockFits, Readable, WellFormed}
+use Rattle.hir.specs.Legible.{BlockLegible, Legible}
+use Rattle.hir.proofs.Runs.{length_run, getD_run, covered}
 use Rattle.hir.proofs.Growth.{sizes_are}
-use Rattle.hir.proofs.Seen.{readable, legible, row_fits, row_seen, places_read, places_fit, function_is, function_fits}
-use Rattle.sweep.specs.Marks.{is_marked, ids, ids_read, ids_written, IdsFit, kept_by, row_kept, passed, all_passed, round_passed, terminal_at, terminals_marked, with_marks}
+use Rattle.hir.proofs.Seen.{row_fits, row_seen, places_read, places_fit, slice_run, function_is, function_fits}
+use Rattle.sweep.specs.Marks.{is_marked, ids, ids_read, ids_written, IdsFit, kept_by, row_kept, passed, all_passed, round_passed, terminal_at, terminals_marked, with_marks, TerminalsFit}
 use Rattle.rules.proofs.Steps.{pick_true, pick_false}
 use Rattle.sweep.proofs.Settling.{InRange}
 
@@ -134,64 +134,37 @@ round_more marks bs k h l = ap (all_passed (round_passed marks (drop k bs))) (bl
 pub terminals_more : (marks : List ℕ) (bs : List BlockV) (k : ℕ) → 0 < k → k ≤ length bs → with_marks (terminals_marked marks (drop k bs)) (identifiers_of (terminal_at bs (k - 1))) ≡ terminals_marked marks (drop (k - 1) bs)
 terminals_more marks bs k h l = ap (λ ps. with_marks (terminals_marked marks (drop k bs)) (identifiers_of ps)) (terminal_is bs (k - 1) no_block (omega arith)) ∙ sym (back (terminals_marked marks) bs no_block k h l)
 
-module _ (t : Tables) (w : WellFormed t) where
-  places_size : length (rows t).places ≡ t.counts.places
-  places_size = ap (λ (c : Counts). c.places) (sizes_are t w.counted)
+pub terminals_fit : (t : Tables) → WellFormed t → TerminalsFit t
+terminals_fit t w = All-weaker (BlockFits t.counts (rows t).numbers) (λ (b : BasicBlock). RunFits b.places t.counts.places) (λ b h. h.places) (rows t).blocks w.sound.blocks
 
+module _ (t : Tables) (w : Legible t) where
   blocks_size : length (rows t).blocks ≡ t.counts.blocks
-  blocks_size = ap (λ (c : Counts). c.blocks) (sizes_are t w.counted)
+  blocks_size = ap (λ (c : Counts). c.blocks) (sizes_are t w.readable.counted)
 
-  -- places of a run that fits
-  in_places : (run : Run) → RunFits run t.counts.places → in_run (rows t).places run ≡ in_run t.places run
-  in_places run h = run_used run t.counts.places t.places (omega (arith, places_size))
-
-  pub run_in_table : (run : Run) → RunFits run t.counts.places → RunFits run (length t.places)
-  run_in_table run h = omega (arith, w.counted.places.in_table)
-
-  pub run_places_fit : (run : Run) → RunFits run t.counts.places → AllByRecursion (PlaceFits t.counts) (in_run t.places run)
-  run_places_fit run h = subst (AllByRecursion (PlaceFits t.counts)) (in_places run h) (All-take (PlaceFits t.counts) run.count _ (All-drop (PlaceFits t.counts) run.first (rows t).places w.sound.places))
+  run_places_fit : (run : Run) → AllByRecursion (PlaceFits t.counts) (in_run (rows t).places run)
+  run_places_fit run = All-take (PlaceFits t.counts) run.count _ (All-drop (PlaceFits t.counts) run.first (rows t).places w.readable.places)
 
   -- what blocks list and their terminals read, in any list of used blocks
   module _ (marks : List ℕ) (wide : t.counts.identifiers ≤ length marks) where
-    abbrev Fit : List BasicBlock → Type 0
-    Fit bs = AllByRecursion (BlockFits t.counts (rows t).numbers) bs
-
-    rows_range : (bs : List BasicBlock) → Fit bs → (i : InstructionV) → Lists (rows_of (map (block_view (rows t)) bs)) i → InRange marks (reads i)
+    rows_range : (bs : List BasicBlock) → AllByRecursion (BlockLegible t.counts (rows t).numbers) bs → (i : InstructionV) → Lists (rows_of (map (block_view (rows t)) bs)) i → InRange marks (reads i)
     rows_range [] a i l = lists_none l
     rows_range (b ∷ bs) a i l = elim (lists_split (block_view (rows t) b).rows l) [
       | inl m ↦
           let u = map_lists (instruction_at (rows t)) (in_run (rows t).numbers b.instructions) i m in
           let used = all_lists (λ n. n < t.counts.instructions) (in_run (rows t).numbers b.instructions) u.0 a.0.listed u.1 in
-          subst (λ (j : InstructionV). InRange marks (reads j)) (sym u.2) (row_range t (readable t w) marks wide u.0 used)
+          subst (λ (j : InstructionV). InRange marks (reads j)) (sym u.2) (row_range t w.readable marks wide u.0 used)
       | inr m ↦ rows_range bs a.1 i m
     ]
 
-    terminals_range : (bs : List BasicBlock) → Fit bs → InRange marks (terminal_reads (map (block_view (rows t)) bs))
-    terminals_range [] a x h = absurd (both_ways false refl h)
-    terminals_range (b ∷ bs) a x h = elim (in_cases x (identifiers_of (block_view (rows t) b).places) (terminal_reads (map (block_view (rows t)) bs)) h) [
-      | inl q ↦ all_ids_below (length marks) (in_run t.places b.places) (places_fit_marks marks t.counts wide _ (run_places_fit b.places a.0.places)) x (subst (λ (l : List ℕ). In x l) (ids_seen (rows t).text (in_run (rows t).places b.places) ∙ ap ids (in_places b.places a.0.places)) q)
-      | inr q ↦ terminals_range bs a.1 x q
+    terminals_range : (bs : List BasicBlock) → InRange marks (terminal_reads (map (block_view (rows t)) bs))
+    terminals_range [] x h = absurd (both_ways false refl h)
+    terminals_range (b ∷ bs) x h = elim (in_cases x (identifiers_of (block_view (rows t) b).places) (terminal_reads (map (block_view (rows t)) bs)) h) [
+      | inl q ↦ all_ids_below (length marks) (in_run (rows t).places b.places) (places_fit_marks marks t.counts wide _ (run_places_fit b.places)) x (subst (λ (l : List ℕ). In x l) (ids_seen (rows t).text (in_run (rows t).places b.places)) q)
+      | inr q ↦ terminals_range bs x q
     ]
 
-    all_fit : (run : Run) → Fit (in_run (rows t).blocks run)
-    all_fit run = All-take (BlockFits t.counts (rows t).numbers) run.count _ (All-drop (BlockFits t.counts (rows t).numbers) run.first (rows t).blocks w.sound.blocks)
-
-  -- a used block
-  module _ (n : ℕ) (used : n < t.counts.blocks) where
-    abbrev pub block : BasicBlock
-    block = get_or t.blocks n null_block
-
-    pub block_fits : BlockFits t.counts (rows t).numbers block
-    block_fits = subst (BlockFits t.counts (rows t).numbers) (get_or-take t.counts.blocks t.blocks n null_block used) (All-get_or (BlockFits t.counts (rows t).numbers) (rows t).blocks n null_block (omega (arith, blocks_size)) w.sound.blocks)
-
-    pub terminal_ids : identifiers_of (block_view (rows t) block).places ≡ ids (in_run t.places block.places)
-    terminal_ids = ids_seen (rows t).text (in_run (rows t).places block.places) ∙ ap ids (in_places block.places block_fits.places)
-
-  functions_size : length (rows t).functions ≡ t.counts.functions
-  functions_size = ap (λ (c : Counts). c.functions) (sizes_are t w.counted)
-
   pub functions_seen : length (view t).functions ≡ t.counts.functions
-  functions_seen = length-map (rows t).functions (function_view (rows t)) ∙ functions_size
+  functions_seen = length-map (rows t).functions (function_view (rows t)) ∙ ap (λ (c : Counts). c.functions) (sizes_are t w.readable.counted)
 
   -- the blocks of a used function
   module _ (f : ℕ) (used : f < t.counts.functions) where
@@ -202,34 +175,56 @@ module _ (t : Tables) (w : WellFormed t) where
     blocks = map (block_view (rows t)) (in_run (rows t).blocks blocks_run)
 
     blocks_are : (function_at (view t) f).blocks ≡ blocks
-    blocks_are = ap (λ (g : FunctionV). g.blocks) (function_is t (legible t w) f used)
+    blocks_are = ap (λ (g : FunctionV). g.blocks) (function_is t w f used)
 
-    blocks_fit : RunFits blocks_run (length (rows t).blocks)
-    blocks_fit = omega (arith, blocks_size, (function_fits t (legible t w) f used).blocks)
+    pub blocks_fit : RunFits blocks_run t.counts.blocks
+    blocks_fit = (function_fits t w f used).blocks
 
     blocks_long : length blocks ≡ blocks_run.count
-    blocks_long = length-map (in_run (rows t).blocks blocks_run) (block_view (rows t)) ∙ length_run blocks_run (rows t).blocks blocks_fit
+    blocks_long = length-map (in_run (rows t).blocks blocks_run) (block_view (rows t)) ∙ length_run blocks_run (rows t).blocks (omega (arith, blocks_size, blocks_fit))
 
-    -- its k-th block, which its terminal reads from
-    module _ (k : ℕ) (inside : k < blocks_run.count) where
-      at_used : blocks_run.first + k < t.counts.blocks
-      at_used = omega (arith, blocks_size, blocks_fit)
-
-      block_at : get_or blocks k (block_view (rows t) null_block) ≡ block_view (rows t) (get_or t.blocks (blocks_run.first + k) null_block)
-      block_at =
-          get_or-map (block_view (rows t)) (in_run (rows t).blocks blocks_run) k null_block (block_view (rows t) null_block) (covered blocks_run (rows t).blocks k inside (omega (arith, blocks_fit)))
-          ∙ ap (block_view (rows t)) (getD_run blocks_run (rows t).blocks k null_block inside ∙ get_or-take t.counts.blocks t.blocks (blocks_run.first + k) null_block at_used)
-
-      pub terminal_reads_are : identifiers_of (terminal_at (function_at (view t) f).blocks k) ≡ ids (in_run t.places (get_or t.blocks (blocks_run.first + k) null_block).places)
-      terminal_reads_are =
-          ap (λ bs. identifiers_of (terminal_at bs k)) blocks_are
-          ∙ ap identifiers_of (terminal_is blocks k (block_view (rows t) null_block) (omega (arith, inside, blocks_long)))
-          ∙ ap (λ (b : BlockV). identifiers_of b.places) block_at
-          ∙ terminal_ids (blocks_run.first + k) at_used
-
-    -- what they read has mark bytes
+    -- what its rows read has mark bytes
     pub function_rows_range : (marks : List ℕ) → t.counts.identifiers ≤ length marks → (i : InstructionV) → Lists (rows_of (function_at (view t) f).blocks) i → InRange marks (reads i)
-    function_rows_range marks wide i l = rows_range marks wide (in_run (rows t).blocks blocks_run) (all_fit marks wide blocks_run) i (subst (λ (bs : List BlockV). Lists (rows_of bs) i) blocks_are l)
+    function_rows_range marks wide i l =
+        rows_range marks wide (in_run (rows t).blocks blocks_run) (All-take (BlockLegible t.counts (rows t).numbers) blocks_run.count _ (All-drop (BlockLegible t.counts (rows t).numbers) blocks_run.first (rows t).blocks w.blocks)) i
+        (subst (λ (bs : List BlockV). Lists (rows_of bs) i) blocks_are l)
 
+    -- and so has what its terminals read
     pub function_terminals_range : (marks : List ℕ) → t.counts.identifiers ≤ length marks → InRange marks (terminal_reads (function_at (view t) f).blocks)
-    function_terminals_range marks wide = subst (λ (bs : List BlockV). InRange marks (terminal_reads bs)) (sym blocks_are) (terminals_range marks wide (in_run (rows t).blocks blocks_run) (all_fit marks wide blocks_run))
+    function_terminals_range marks wide = subst (λ (bs : List BlockV). InRange marks (terminal_reads bs)) (sym blocks_are) (terminals_range marks wide (in_run (rows t).blocks blocks_run))
+
+    -- its k-th block, and the places of its terminal as the code reads them
+    module _ (terminals : TerminalsFit t) (k : ℕ) (inside : k < blocks_run.count) where
+      abbrev block : BasicBlock
+      block = get_or t.blocks (blocks_run.first + k) null_block
+
+      block_is : get_or (rows t).blocks (blocks_run.first + k) null_block ≡ block
+      block_is = get_or-take t.counts.blocks t.blocks (blocks_run.first + k) null_block (omega (arith, blocks_fit))
+
+      block_at : get_or blocks k (block_view (rows t) null_block) ≡ block_view (rows t) block
+      block_at =
+          get_or-map (block_view (rows t)) (in_run (rows t).blocks blocks_run) k null_block (block_view (rows t) null_block) (covered blocks_run (rows t).blocks k inside (omega (arith, blocks_size, blocks_fit)))
+          ∙ ap (block_view (rows t)) (getD_run blocks_run (rows t).blocks k null_block inside ∙ block_is)
+
+      places_in : RunFits block.places t.counts.places
+      places_in = subst (λ (b : BasicBlock). RunFits b.places t.counts.places) block_is (All-get_or (λ (b : BasicBlock). RunFits b.places t.counts.places) (rows t).blocks (blocks_run.first + k) null_block (omega (arith, blocks_size, blocks_fit)) terminals)
+
+      pub terminal_in_table : RunFits block.places (length t.places)
+      terminal_in_table = omega (arith, places_in, w.readable.counted.places.in_table)
+
+      abbrev pub terminal : List Place
+      terminal = take (block.places.first + block.places.count - block.places.first) (drop block.places.first t.places)
+
+      read : terminal ≡ in_run (rows t).places block.places
+      read = slice_run block.places t.counts.places t.places (omega (arith, w.readable.counted.places.in_table)) places_in
+
+      pub terminal_fit : AllByRecursion (PlaceFits t.counts) terminal
+      terminal_fit = subst (AllByRecursion (PlaceFits t.counts)) (sym read) (run_places_fit block.places)
+
+      pub terminal_seen : ids terminal ≡ identifiers_of (terminal_at (function_at (view t) f).blocks k)
+      terminal_seen =
+          ap ids read
+          ∙ sym (ids_seen (rows t).text (in_run (rows t).places block.places))
+          ∙ ap (λ (b : BlockV). identifiers_of b.places) (sym block_at)
+          ∙ ap identifiers_of (sym (terminal_is blocks k (block_view (rows t) null_block) (omega (arith, inside, blocks_long))))
+          ∙ ap (λ bs. identifiers_of (terminal_at bs k)) (sym blocks_are)

@@ -7,6 +7,10 @@ use Rattle.rules.specs.Views.{PlaceV, InstructionV, BlockV, acting, function_at,
 use Rattle.rules.specs.Eliminations.{Meaning, kept, lists, needed, sweep_keeps}
 use Rattle.hir.specs.declared.rows.Place.{Place}
 use Rattle.hir.specs.declared.rows.Instruction.{Instruction}
+use Rattle.hir.specs.declared.rows.BasicBlock.{BasicBlock}
+use Rattle.hir.specs.Tables.{Tables}
+use Rattle.hir.specs.View.{rows}
+use Rattle.hir.specs.WellFormed.{RunFits}
 
 -- is the identifier marked?
 abbrev pub is_marked : List ℕ → ℕ → Bool
@@ -90,3 +94,7 @@ MarksNeeded bs marks = (i : InstructionV) → Lists (rows_of bs) i → kept_by (
 -- The meaning of marks: each list, without the rows that they do not keep.
 abbrev pub by_marks : List ℕ → Meaning
 by_marks marks h f = map (select (kept_by (is_marked marks))) (lists (function_at h f).blocks)
+
+-- The places of each terminal are used.
+abbrev pub TerminalsFit : Tables → Type 0
+TerminalsFit t = AllByRecursion (λ (b : BasicBlock). RunFits b.places t.counts.places) (rows t).blocks

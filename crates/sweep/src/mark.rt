@@ -1,13 +1,13 @@
 ghost use Rattle.std.specs.Prelude.{◌≡◌, ◌≤◌, length};
+ghost use Rattle.std.proofs.Props.{props};
+ghost use Rattle.rules.specs.Views.{function_at};
 ghost use Rattle.hir.specs.Tables.{tables};
-ghost use Rattle.hir.specs.WellFormed.{RunFits};
-ghost use Rattle.hir.specs.Used.{in_run};
-ghost use Rattle.reading.specs.Stored.{function_seen};
+ghost use Rattle.hir.specs.View.{view};
 ghost use Rattle.dead_code_elimination.specs.Elimination.{Ready};
-ghost use Rattle.sweep.specs.Marks.{MarksNeeded};
+ghost use Rattle.sweep.specs.Marks.{MarksNeeded, TerminalsFit};
 
 use super::kept::Marked;
-use hir::{IdentifierId, InstructionId, Place, Run, Store};
+use hir::{FormedStore, FunctionId, IdentifierId, InstructionId, Place};
 use reading::{StoredFunction, row_places};
 use thin::Keeps;
 
@@ -17,16 +17,18 @@ struct Marking<'s, 'a, 'm> {
     function: StoredFunction<'s, 'a>,
     marks: &'m mut [u8],
     ghost wide: { function.store.now.counts.identifiers ≤ length marks.now },
+    ghost terminals: { TerminalsFit (tables function.store.now) } by { Prim.hlevel props },
 }
 
 // What marks answers how many identifiers it has newly marked.
-impl Marking<'_, '_, '_> {
+impl<'s> Marking<'s, '_, '_> {
     ghost use Rattle.std.specs.Prelude.{◌<◌};
     ghost use Rattle.std.specs.List.{AllByRecursion};
     ghost use Rattle.rules.specs.Views.{block_rows, identifiers_of};
     ghost use Rattle.hir.specs.View.{instruction_at, rows};
-    ghost use Rattle.hir.specs.WellFormed.{PlaceFits, WellFormed};
-    ghost use Rattle.sweep.specs.Marks.{all_passed, ids_read, passed, round_passed, terminal_at, terminals_marked, with_mark, with_marks};
+    ghost use Rattle.hir.specs.WellFormed.{PlaceFits};
+    ghost use Rattle.reading.specs.Stored.{function_seen};
+    ghost use Rattle.sweep.specs.Marks.{all_passed, ids, ids_read, is_marked, kept_by, passed, round_passed, terminal_at, terminals_marked, with_mark, with_marks};
     ghost use Rattle.sweep.specs.Marking.{HasMarked, LeavesMarks};
 
     #[tactic(auto, using(crate::proofs::Marking::one_less))]
@@ -56,17 +58,24 @@ impl Marking<'_, '_, '_> {
         new
     }
 
-    // If the row is kept, what it reads is needed.
+    // Does one of its rows stay, by the marks so far?
+    fn keeps(&self, number: u32) -> bool
+        requires { number < self.now.function.store.now.counts.instructions }
+        ensures { result ≡ kept_by (is_marked self.now.marks.now) (instruction_at (rows (tables self.now.function.store.now)) number) }
+    {
+        let marked = Marked { marks: self.marks };
+        marked.keeps(self.function.store, InstructionId(number))
+    }
+
+    // If the row stays, what it reads is needed.
     fn mark_row(&mut self, number: u32) -> usize
         requires { number < self.old.function.store.now.counts.instructions }
         ensures { HasMarked self.old self.new (passed self.old.marks.now (instruction_at (rows (tables self.old.function.store.now)) number)) result }
     {
-        let store = self.function.store;
-        let row = InstructionId(number);
-        if !(Marked { marks: self.marks }).keeps(store, row) {
+        if !self.keeps(number) {
             return 0;
         }
-        self.mark_reads(row_places(store, row))
+        self.mark_reads(row_places(self.function.store, InstructionId(number)))
     }
 
     // The rows of its k-th block, backwards.
@@ -96,22 +105,30 @@ impl Marking<'_, '_, '_> {
         new
     }
 
-    // What the terminal of its k-th block reads.
+    // The places of its k-th block's terminal.
+    fn terminal_places(&self, k: u32) -> &'s [Place]
+        requires { k < length (function_seen self.now.function).blocks }
+        ensures seen { ids result.now ≡ identifiers_of (terminal_at (function_seen self.now.function).blocks k) }
+        ensures fit { AllByRecursion (PlaceFits self.now.function.store.now.counts) result.now }
+    {
+        let store = self.function.store;
+        let function = store.functions[self.function.id.0 as usize];
+        let run = store.blocks[(function.blocks.first + k) as usize].places;
+        let first = run.first as usize;
+        &store.places[first..first + run.count as usize]
+    }
+
+    // What that terminal reads.
     fn mark_terminal(&mut self, k: u32)
-        requires well { WellFormed (tables self.old.function.store.now) }
-        requires used { k < length (function_seen self.old.function).blocks }
+        requires { k < length (function_seen self.old.function).blocks }
         ensures { LeavesMarks self.old self.new (with_marks self.old.marks.now (identifiers_of (terminal_at (function_seen self.old.function).blocks k))) }
     {
-        let function = self.function;
-        let store = function.store;
-        let at = (function.row().blocks.first + k) as usize;
-        for place in places_in(store, store.blocks[at].places) {
+        for place in self.terminal_places(k) {
             self.mark(place.identifier);
         }
     }
 
     fn mark_terminals(&mut self)
-        requires { WellFormed (tables self.old.function.store.now) }
         ensures { LeavesMarks self.old self.new (terminals_marked self.old.marks.now (function_seen self.old.function).blocks) }
     {
         let function = self.function;
@@ -121,21 +138,16 @@ impl Marking<'_, '_, '_> {
     }
 }
 
-// The places of a run.
-fn places_in<'b>(store: &'b Store<'_>, run: Run) -> &'b [Place]
-    requires { RunFits run (length store.now.places.now) }
-    ensures { result.now ≡ in_run store.now.places.now run }
-{
-    let first = run.first as usize;
-    &store.places[first..first + run.count as usize]
-}
-
 // Marks what is needed. Backwards, a round follows every chain of reads that does not go back through a loop, so that a function
 // without one takes two rounds: the second finds nothing new.
-pub(super) fn mark_needed(function: StoredFunction<'_, '_>, marks: &mut [u8])
-    requires { Ready (tables function.store.now) function.id.0 marks.old }
-    ensures { MarksNeeded (function_seen function.entry).blocks marks.new }
+pub(super) fn mark_needed(store: &FormedStore<'_>, function: FunctionId, marks: &mut [u8])
+    requires { Ready store.now.counts function.0 marks.old }
+    ensures { MarksNeeded (function_at (view (tables store.now)) function.0).blocks marks.new }
 {
+    let function = StoredFunction {
+        store: &store.lent,
+        id: function,
+    };
     let mut marking = Marking { function, marks };
     marking.mark_terminals();
     while marking.mark_round() > 0 {}

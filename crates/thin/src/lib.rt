@@ -15,7 +15,7 @@ ghost use Rattle.hir.specs.Lists.{with_thinned_list, HasBlock};
 ghost use Rattle.hir.specs.Frame.{Becomes};
 ghost use Rattle.thin.specs.Kept.{kept_numbers, kept_of, rewritten};
 
-use hir::{FunctionId, InstructionId, Run, Store};
+use hir::{FormedStore, FunctionId, InstructionId, Run, Store};
 
 // What decides of each row whether it stays. A trait and no closure: a clause names the test of each implementor, where of a closure it
 // knows only what the calls answered.
@@ -72,11 +72,10 @@ fn write_thinned<K: Keeps>(store: &mut Store<'_>, function: FunctionId, k: u32, 
 }
 
 // Leaves the k-th block of a function the rows that are to stay, in their order.
-pub fn thin_block_list<K: Keeps>(store: &mut Store<'_>, function: FunctionId, k: u32, keep: &K)
-    requires well { WellFormed (tables store.old) }
+pub fn thin_block_list<K: Keeps>(store: &mut FormedStore<'_>, function: FunctionId, k: u32, keep: &K)
     requires has { HasBlock (tables store.old) function.0 k }
     requires ready { K.Keeps.ready keep.now store.old.counts }
     ensures does { Becomes store.old store.new (with_thinned_list (tables store.old) function.0 k (kept_numbers (K.Keeps.test keep.now) (tables store.old) function.0 k)) (with_list (view (tables store.old)) function.0 k (select (K.Keeps.test keep.now) (rows_at (view (tables store.old)) function.0 k))) }
 {
-    write_thinned(store, function, k, keep)
+    write_thinned(&mut store.lent, function, k, keep)
 }

@@ -12,8 +12,8 @@ use Rattle.sweep.proofs.kept.Marked.has_written.Goals as goal
 pub any-requires-clause-callable : goal.any-requires-clause-callable
 any-requires-clause-callable c = serves_from_places (YieldsList-from_slice c.args.places.now cc) (λ x q k. search (rules, tests))
     (λ x k h e.
-      let inside : x.now.identifier.0 < length c.args.self.now.marks.now = subst (λ (p : Place). p.identifier.0 < length c.args.self.now.marks.now) (sym e) (All-get_or (λ (p : Place). p.identifier.0 < length c.args.self.now.marks.now) c.args.places.now k x.now h c.requires) in
-      search (rules, tests))
+    let inside : x.now.identifier.0 < length c.args.self.now.marks.now = subst (λ (p : Place). p.identifier.0 < length c.args.self.now.marks.now) (sym e) (All-get_or (λ (p : Place). p.identifier.0 < length c.args.self.now.marks.now) c.args.places.now k x.now h c.requires) in
+    search (rules, tests))
 
 pub returns : goal.returns
 returns c =

@@ -1,5 +1,5 @@
-use Rattle.std.proofs.Common.{ℕ, ◌-◌, List, arith}
-use Rattle.rules.specs.Views.{BlockV, block_rows}
+use Rattle.std.proofs.Common.{◌-◌, arith}
+use Rattle.rules.specs.Views.{block_rows}
 use Rattle.reading.specs.declared.stored.StoredFunction.{StoredFunction}
 use Rattle.reading.specs.Stored.{function_seen}
 use Rattle.sweep.specs.Marks.{all_passed}

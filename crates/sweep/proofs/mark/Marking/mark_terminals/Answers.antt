@@ -1,4 +1,4 @@
-use Rattle.std.proofs.Common.{ℕ, ◌-◌, List, arith}
+use Rattle.std.proofs.Common.{◌-◌, arith}
 use Rattle.rules.specs.Views.{identifiers_of}
 use Rattle.reading.specs.declared.stored.StoredFunction.{StoredFunction}
 use Rattle.reading.specs.Stored.{function_seen}
