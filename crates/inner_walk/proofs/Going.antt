@@ -1,5 +1,5 @@
 -- The walks from several functions, one after another, and those that are left.
-use Rattle.std.proofs.Common.{◌≡◌, ℕ, zero, suc, ◌+◌, ◌-◌, ◌<◌, ◌≤◌, Bool, true, false, List, [], ◌∷◌, ◌++◌, length, map, drop, sym, refl, ap, ◌∙◌, subst, append_assoc, append-nil, sub-one, arith}
+use Rattle.std.proofs.Common.{◌≡◌, ℕ, zero, suc, ◌+◌, ◌-◌, ◌<◌, ◌≤◌, Bool, true, false, List, [], ◌∷◌, ◌++◌, length, map, drop, get_or, set, sym, refl, ap, ◌∙◌, subst, append_assoc, append-nil, arith}
 use Rattle.std.specs.List.{AllByRecursion}
 use Rattle.std.proofs.ByRecursion.{All-append}
 use Rattle.std.proofs.lemmas.List.{drop_all}
@@ -10,7 +10,7 @@ use Rattle.rules.proofs.Membership.{In, in_head, gathered-++}
 use Rattle.refusals.specs.Walked.{NoDeeper}
 use Rattle.refusals.proofs.Blocks.{block_first}
 use Rattle.inner_walk.specs.Passing.{Passable, Passed, Walkable, Walks, AllWalkable, AllWalked}
-use Rattle.inner_walk.proofs.Joined.{nobody, able_first, able_rest, joined}
+use Rattle.inner_walk.proofs.Joined.{one, able_first, able_rest, joined}
 
 module _ {A : Type 0} (P : A → Type 0) where
   pub all_left : (xs ys : List A) → AllByRecursion P (xs ++ ys) → AllByRecursion P xs
@@ -28,9 +28,6 @@ pub record Going (d : ℕ) (h : Hir) (all left before now : List ℕ) : Type 0 w
   pub walked : AllWalked d h gone before now
 
 module _ (d : ℕ) (h : Hir) where
-  pub started : (all ms : List ℕ) → Going d h all all ms ms
-  started all ms = record { gone = []; whole = refl; walked = record { deep = tt; passed = nobody h ms } }
-
   went : (all fs left before now after : List ℕ) → Going d h all (fs ++ left) before now → AllWalked d h fs now after → Going d h all left before after
   went all fs left before now after s w = record {
     gone = s.gone ++ fs;
@@ -92,20 +89,19 @@ module _ (f : ℕ → InstructionV) where
       pub named_refused : (Walkable d h g now → ⊥) → AllWalkable d h all before → ⊥
       named_refused n = turned_back d h all (g ∷ []) (inner (backwards (map f ys))) before now next (λ w. n (record { deep = w.deep.0; able = subst (λ gs. Passable h gs now) (append-nil (on_walk d h g)) w.able }))
 
+one_less : (n : ℕ) → 0 < n → suc (n - 1) ≡ n
+one_less n z = omega arith
+
 -- a function itself comes first, then its inner functions
 module _ (h : Hir) (f : ℕ) where
   pub itself : (n : ℕ) → 0 < n → In f (on_walk n h f)
   itself zero z = absurd (omega arith)
   itself (suc d) z = in_head f (gathered (on_walk d h) (inner_of (function_at h f).blocks))
 
-  pub ended : (n : ℕ) (before marked now : List ℕ) → 0 < n → Passed h (f ∷ []) before marked → AllWalked (n - 1) h (inner_of (function_at h f).blocks) marked now → Walks n h f before now
-  ended zero before marked now z p w = absurd (omega arith)
-  ended (suc d) before marked now z p w' =
-      let w : AllWalked d h (inner_of (function_at h f).blocks) marked now = subst (λ m. AllWalked m h (inner_of (function_at h f).blocks) marked now) (sub-one (suc d)) w' in
-      record { deep = w.deep; passed = joined h (f ∷ []) (gathered (on_walk d h) (inner_of (function_at h f).blocks)) before marked now p w.passed }
+  module _ (n : ℕ) (before : List ℕ) (z : 0 < n) (l : f < length before) (own : (function_at h f).appended ≡ false) (free : get_or before f 0 ≡ 0) where
+    pub ended : (now : List ℕ) → AllWalked (n - 1) h (inner_of (function_at h f).blocks) (set before f 1) now → Walks n h f before now
+    ended now w = subst (λ m. Walks m h f before now) (one_less n z) (record { deep = w.deep; passed = joined h (f ∷ []) (gathered (on_walk (n - 1) h) (inner_of (function_at h f).blocks)) before (set before f 1) now (one h f before l own free) w.passed })
 
-  pub not_begun : (n : ℕ) (before marked : List ℕ) → 0 < n → Passed h (f ∷ []) before marked → (AllWalkable (n - 1) h (inner_of (function_at h f).blocks) marked → ⊥) → Walkable n h f before → ⊥
-  not_begun zero before marked z p u w = omega arith
-  not_begun (suc d) before marked z p u' w =
-      let u : AllWalkable d h (inner_of (function_at h f).blocks) marked → ⊥ = subst (λ m. AllWalkable m h (inner_of (function_at h f).blocks) marked → ⊥) (sub-one (suc d)) u' in
-      u (record { deep = w.deep; able = able_rest h (f ∷ []) (gathered (on_walk d h) (inner_of (function_at h f).blocks)) before marked p w.able })
+    pub not_begun : (AllWalkable (n - 1) h (inner_of (function_at h f).blocks) (set before f 1) → ⊥) → Walkable n h f before → ⊥
+    not_begun u v = let w = subst (λ m. Walkable m h f before) (sym (one_less n z)) v in
+        u (record { deep = w.deep; able = able_rest h (f ∷ []) (gathered (on_walk (n - 1) h) (inner_of (function_at h f).blocks)) before (set before f 1) (one h f before l own free) w.able })

@@ -10,7 +10,6 @@ use Rattle.hir.specs.Tables.{tables}
 use Rattle.hir.specs.View.{instruction_at, rows, view}
 use Rattle.reading.specs.Stored.{function_seen, rows_in}
 use Rattle.inner_walk.specs.Passing.{AllWalkable, AllWalked}
-use Rattle.inner_walk.proofs.Joined.{one}
 use Rattle.inner_walk.proofs.Going.{all_left, none_left, block_walked, block_refused, none_named, named_walked, named_refused, itself, ended, not_begun}
 use Rattle.inner_walk.proofs.+walk.Goals as goal
 use Rattle.inner_walk.proofs.+walk.Goals.{walk-then-row-via-then-row, walk-then-row-via-else-row+then-reached-number-ne0}
@@ -30,9 +29,8 @@ walk-returns-then-not-walk_rows m c =
     let h = view (tables g.store.now) in
     let d = c.args.depth - 1 in
     let bs = (function_seen g).blocks in
-    let p = one h g.id.0 c.args.reached.now (omega arith) (ap (λ (v : FunctionV). v.appended) (sym c.row-row.ensures.seen) ∙ c.if-row.false) c.if-reached-number-ne0.false in
     let n : AllWalkable d h (inner (backwards (block_rows bs c.loop-k.k))) c.loop-k.reached → ⊥ = search rules in
-    not_begun h g.id.0 c.args.depth _ _ (omega arith) p (block_refused d h bs c.loop-k.k _ _ c.loop-k.invariant (omega arith) n)
+    not_begun h g.id.0 c.args.depth _ (omega arith) (omega arith) (ap (λ (v : FunctionV). v.appended) (sym c.row-row.ensures.seen) ∙ c.if-row.false) c.if-reached-number-ne0.false (block_refused d h bs c.loop-k.k _ _ c.loop-k.invariant (omega arith) n)
 
 pub walk-loop-k-preserved : goal.walk-loop-k-preserved
 walk-loop-k-preserved m c =
@@ -46,8 +44,7 @@ pub walk-returns : goal.walk-returns
 walk-returns m c =
     let g = c.args.function in
     let h = view (tables g.store.now) in
-    let p = one h g.id.0 c.args.reached.now (omega arith) (ap (λ (v : FunctionV). v.appended) (sym c.row-row.ensures.seen) ∙ c.if-row.false) c.if-reached-number-ne0.false in
-    ended h g.id.0 c.args.depth _ _ _ (omega arith) p (none_left (c.args.depth - 1) h (function_seen g).blocks c.loop-k.k _ _ c.loop-k.invariant (omega arith))
+    ended h g.id.0 c.args.depth _ (omega arith) (omega arith) (ap (λ (v : FunctionV). v.appended) (sym c.row-row.ensures.seen) ∙ c.if-row.false) c.if-reached-number-ne0.false _ (none_left (c.args.depth - 1) h (function_seen g).blocks c.loop-k.k _ _ c.loop-k.invariant (omega arith))
 
 pub walk_rows-returns-then-not-walk : goal.walk_rows-returns-then-not-walk
 walk_rows-returns-then-not-walk m c =
