@@ -1,0 +1,9 @@
+ghost use Rattle.std.specs.Prelude.{◌<◌};
+
+// How marks are read while a block is looked at: those above `base` are of this function, and `own` is the block's.
+#[derive(Clone, Copy)]
+pub struct Turn {
+    pub base: u64,
+    pub own: u64,
+    pub ghost above: { base < own },
+}
