@@ -6,7 +6,7 @@ use Rattle.rules.specs.Views.{BlockV, FunctionV, writes, rows_of, block_rows}
 use Rattle.rules.specs.Drawn.{Ordered, OrderedBlocks}
 use Rattle.refusals.specs.Walked.{WritesSound}
 use Rattle.read_write.specs.Written.{Markable, Marked, RowsSound, RowsDone}
-use Rattle.read_write.proofs.Marks.{none, then_after, able_left, able_after, wider}
+use Rattle.read_write.proofs.Marks.{then_after, able_left, able_after, wider}
 use Rattle.rules.proofs.Membership.{gathered-++}
 
 -- the rows of the blocks before k, of block k, and of those after it
@@ -34,9 +34,6 @@ ordered_at (b ∷ bs) (suc k) h o = ordered_at bs k (omega arith) o.1
 pub record BlocksDone (base k : ℕ) (bs : List BlockV) (before now : List ℕ) : Type 0 where
   pub marked : Marked base (base + 1) (base + k) (gathered writes (rows_of (take k bs))) before now
   pub ordered : OrderedBlocks (take k bs)
-
-pub no_blocks : (base : ℕ) (bs : List BlockV) (ms : List ℕ) → BlocksDone base 0 bs ms ms
-no_blocks base bs ms = record { marked = none base (base + 1) (base + 0) ms; ordered = tt }
 
 pub at_most : (base k : ℕ) (bs : List BlockV) (ms ns : List ℕ) → ((x : ℕ) → get_or ms x 0 ≤ base) → BlocksDone base k bs ms ns → (x : ℕ) → get_or ns x 0 ≤ base + k
 at_most base k bs ms ns low d x = elim (cases_Bool (within x (gathered writes (rows_of (take k bs))))) [

@@ -1,5 +1,5 @@
 -- Places marked and read one after another.
-use Rattle.std.proofs.Common.{◌≡◌, ℕ, ◌+◌, ◌<◌, ◌≤◌, Bool, true, false, eqb, leb, ◌≢◌, List, [], ◌∷◌, ◌++◌, map, length, get_or, drop, sym, refl, ap, ◌∙◌, subst, inl, inr, append_assoc, append-nil, arith}
+use Rattle.std.proofs.Common.{◌≡◌, ℕ, ◌+◌, ◌<◌, Bool, true, false, eqb, leb, ◌≢◌, List, [], ◌∷◌, ◌++◌, map, length, get_or, drop, sym, refl, ap, ◌∙◌, subst, inl, inr, append_assoc, arith}
 use Rattle.std.proofs.lemmas.List.{at_drop_more}
 use Rattle.std.proofs.lemmas.Bool.{both_ways, cases_Bool, eqb-true, or_cases}
 use Rattle.std.specs.List.{AllByRecursion}
@@ -10,7 +10,7 @@ use Rattle.rules.proofs.Steps.{pick_true, pick_false}
 use Rattle.hir.specs.declared.rows.Place.{Place}
 use Rattle.hir.specs.View.{place_view, null_place}
 use Rattle.read_write.specs.Written.{written_in, read_in, Markable, Marked, Unnumbered}
-use Rattle.read_write.proofs.Marks.{none, then_after, able_after, able_left}
+use Rattle.read_write.proofs.Marks.{then_after, able_after, able_left}
 
 -- as they are seen
 written_cons : (text : Bytes) (p : Place) (ps : List Place) (b : Bool) → identifiers_of (select is_written (map (place_view text) ps)) ≡ written_in ps
@@ -44,9 +44,6 @@ pub record Marking (base turn : ℕ) (whole rest before now : List ℕ) : Type 0
   pub split : gone ++ rest ≡ whole
   pub marked : Marked base turn turn gone before now
 
-pub started : (base turn : ℕ) (ws ms : List ℕ) → Marking base turn ws ws ms ms
-started base turn ws ms = record { gone = []; split = refl; marked = none base turn turn ms }
-
 pub left_as : (base turn : ℕ) (whole rest rest' before now : List ℕ) → rest ≡ rest' → Marking base turn whole rest before now → Marking base turn whole rest' before now
 left_as base turn whole rest rest' before now e s = subst (λ zs. Marking base turn whole zs before now) e s
 
@@ -56,9 +53,6 @@ one_more base turn x whole rest before now after l s m = record {
   split = append_assoc s.gone (x ∷ []) rest ∙ s.split;
   marked = then_after base turn turn turn l (omega arith) s.gone (x ∷ []) before now after s.marked m;
 }
-
-pub all_marked : (base turn : ℕ) (whole before now : List ℕ) → Marking base turn whole [] before now → Marked base turn turn whole before now
-all_marked base turn whole before now s = subst (λ zs. Marked base turn turn zs before now) (sym (append-nil s.gone) ∙ s.split) s.marked
 
 pub not_marked : (base turn x : ℕ) (whole rest before now : List ℕ) → Marking base turn whole (x ∷ rest) before now → (Markable base (x ∷ []) now → ⊥) → Markable base whole before → ⊥
 not_marked base turn x whole rest before now s u m = u (able_left base (x ∷ []) rest now (able_after base turn turn s.gone (x ∷ rest) before now s.marked (subst (λ zs. Markable base zs before) (sym s.split) m)))

@@ -1,5 +1,5 @@
 -- Rows marked one after another, from the last to the first.
-use Rattle.std.proofs.Common.{◌≡◌, ℕ, ◌<◌, ◌≤◌, false, eqb, ◌≢◌, List, [], ◌∷◌, ◌++◌, map, get_or, sym, refl, ap, ◌∙◌, subst, inl, inr, append_assoc, append-nil, arith}
+use Rattle.std.proofs.Common.{◌≡◌, ℕ, ◌<◌, false, eqb, List, [], ◌∷◌, ◌++◌, map, get_or, sym, ap, ◌∙◌, subst, inl, inr, append_assoc, arith}
 use Rattle.std.proofs.lemmas.List.{map-append}
 use Rattle.rules.specs.Kinds.{phi_kind}
 use Rattle.rules.specs.Lists.{select, gathered}
@@ -12,7 +12,7 @@ use Rattle.hir.specs.View.{Rows, instruction_at, instruction_view, instructions_
 use Rattle.refusals.specs.Walked.{is_phi}
 use Rattle.read_write.specs.Written.{written_in, read_in, Markable, Marked, Unnumbered, RowSound, RowDone, RowsSound, RowsDone}
 use Rattle.read_write.proofs.PlaceMarks.{writes_are, reads_are}
-use Rattle.read_write.proofs.Marks.{none, then_after, then_before, able_left, able_right, able_after, able_before}
+use Rattle.read_write.proofs.Marks.{then_after, then_before, able_left, able_right, able_after, able_before}
 
 -- a row and its places, as they are seen
 module _ (r : Rows) (text : Bytes) (i : InstructionV) (x : Instruction) (ps : List Place) (e : i ≡ instruction_view r x) (m : map (place_view text) ps ≡ i.places) where
@@ -99,9 +99,6 @@ pub record RowsMarked (base turn : ℕ) (r : Rows) (whole left before now : List
   pub split : whole ≡ left ++ gone
   pub done : RowsDone base turn (instructions_at r gone) before now
 
-pub rows_started : (base turn : ℕ) (r : Rows) (whole ms : List ℕ) → RowsMarked base turn r whole whole ms ms
-rows_started base turn r whole ms = record { gone = []; split = sym (append-nil whole); done = record { marked = none base turn turn ms; ordered = tt } }
-
 -- the last of those that are left is next
 module _ (base turn : ℕ) (r : Rows) (whole left left' before now : List ℕ) (n : ℕ) (next : left ≡ left' ++ (n ∷ [])) (s : RowsMarked base turn r whole left before now) where
   around : whole ≡ left' ++ (n ∷ s.gone)
@@ -114,6 +111,3 @@ module _ (base turn : ℕ) (r : Rows) (whole left left' before now : List ℕ) (
   rows_refused low u h =
       row_refused base turn (instruction_at r n) (instructions_at r left') (instructions_at r s.gone) before now low s.done u
       (subst (λ is. RowsSound base is before) (ap (instructions_at r) around ∙ map-append (instruction_at r) left' (n ∷ s.gone)) h)
-
-pub all_rows : (base turn : ℕ) (r : Rows) (whole left before now : List ℕ) → left ≡ [] → RowsMarked base turn r whole left before now → RowsDone base turn (instructions_at r whole) before now
-all_rows base turn r whole left before now e s = subst (λ ns. RowsDone base turn (instructions_at r ns) before now) (sym (s.split ∙ ap (λ zs. zs ++ s.gone) e)) s.done

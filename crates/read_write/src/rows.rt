@@ -29,7 +29,7 @@ pub fn function_sound(function: StoredFunction<'_, '_>, base: u64, marks: &mut [
 }
 
 impl Turn {
-    // From the last row to the first, so that a row reads before what is written at or after it has the mark.
+    // From the last row to the first: what is written at or after a row has the mark by the time its reads are looked at.
     fn list_sound(self, list: RowList<'_, '_>, marks: &mut [u64]) -> bool
         requires within { list.store.now.counts.identifiers ≤ length marks.old }
         requires low { (x : ℕ) → slice_index marks.old x < self.own }

@@ -1,6 +1,7 @@
 ghost use Rattle.std.specs.Prelude.{◌<◌};
 
-// How marks are read while a block is looked at: those above `base` are of this function, and `own` is the block's.
+// How marks are read while a block is looked at: those above `base` are of this function, and `own` is the block's. The marks are passed
+// beside it: as a field, each method would have to say too that they, the base and the block's own stay the same.
 #[derive(Clone, Copy)]
 pub struct Turn {
     pub base: u64,

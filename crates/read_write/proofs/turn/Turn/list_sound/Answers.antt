@@ -1,5 +1,3 @@
-use Rattle.std.specs.Iterator.Adapters.{rev_source}
-use Rattle.std.specs.Slice.Iter.{iter_rest}
 use Rattle.hir.specs.Tables.{tables}
 use Rattle.hir.specs.View.{rows}
 use Rattle.read_write.proofs.RowMarks.{rows_more, rows_refused}

@@ -1,4 +1,4 @@
-use Rattle.std.proofs.Common.{◌+◌, ◌<◌, length, get_or, drop, sym, ◌∙◌, subst, arith}
+use Rattle.std.proofs.Common.{◌+◌, get_or, drop, sym, ◌∙◌, subst, arith}
 use Rattle.hir.specs.View.{null_place}
 use Rattle.read_write.specs.Written.{written_in}
 use Rattle.read_write.proofs.PlaceMarks.{Marking, left_as, one_more, not_marked, written_next, written_not}
