@@ -7,7 +7,7 @@ use Rattle.laws.specs.Allowances.{blocks_counts, function_counts, no_counts}
 use Rattle.hir.specs.Tables.{Tables}
 use Rattle.hir.specs.View.{null_function, view}
 use Rattle.hir.specs.WellFormed.{WellFormed}
-use Rattle.refusals.proofs.Blocks.{function_is}
+use Rattle.hir.proofs.Seen.{function_is}
 
 pub no_component : (t : Tables) → WellFormed t → (f : ℕ) → f < t.counts.functions → (get_or t.functions f null_function).fn_type ≢ 0 → blocks_counts (function_at (view t) f).blocks ≡ function_counts (function_at (view t) f)
 no_component t w f u n =
