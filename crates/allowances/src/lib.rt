@@ -137,11 +137,10 @@ impl Allowances {
 pub fn enough_spare(function: StoredFunction<'_, '_>, depth: u32) -> bool
     ensures { MatchBool result (Spare (tables function.entry.store.now) (walk_counts depth (view (tables function.entry.store.now)) function.entry.id.0)) (Spare (tables function.entry.store.now) (walk_counts depth (view (tables function.entry.store.now)) function.entry.id.0) → ⊥) }
 {
-    walk_tally(function, depth).is_some_and(|tally| {
-        tally
-            .allowances()
-            .is_some_and(|allowed| allowed.fit(function.store))
-    })
+    let Some(allowed) = walk_tally(function, depth).and_then(Tally::allowances) else {
+        return false;
+    };
+    allowed.fit(function.store)
 }
 
 // The functions on the walk from a function, together. None only where a sum passes 64 bits.
