@@ -68,7 +68,3 @@ module _ {whole left x rest : Counts} {sum : Tally} (next : Next left x rest) (s
 
 pub left_as : {whole left rest : Counts} {sum : Tally} → left ≡ rest → Summing whole left sum → Summing whole rest sum
 left_as {sum = sum} e s = record { so_far = ap (plus (counts_of sum)) (sym e) ∙ s.so_far }
-
--- nothing is left
-pub all_summed : {whole left : Counts} {sum : Tally} → left ≡ no_counts → Summing whole left sum → counts_of sum ≡ whole
-all_summed {sum = sum} e s = sym (plus_none (counts_of sum)) ∙ ap (plus (counts_of sum)) (sym e) ∙ s.so_far

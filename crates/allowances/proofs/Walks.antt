@@ -1,15 +1,14 @@
 -- The walks from some functions, counted one after another.
-use Rattle.std.proofs.Common.{◌≡◌, ℕ, zero, suc, ◌+◌, ◌-◌, ◌<◌, ◌≤◌, true, false, ◌≢◌, eqb, List, [], ◌∷◌, ◌++◌, length, get_or, drop, None, Option, sym, refl, ap, ◌∙◌, subst, inl, inr, arith, sub-one}
-use Rattle.std.proofs.lemmas.List.{at_drop_more, drop_all}
-use Rattle.std.proofs.lemmas.Bool.{cases_Bool, eq-eqb}
-use Rattle.std.proofs.lemmas.Bool.Decides.{eqb_tells}
+use Rattle.std.proofs.Common.{◌≡◌, ℕ, zero, suc, ◌+◌, ◌-◌, ◌<◌, true, false, eqb, List, [], ◌∷◌, ◌++◌, length, get_or, drop, None, Option, sym, refl, ap, ◌∙◌, subst, inl, inr, arith, sub-one}
+use Rattle.std.proofs.lemmas.List.{at_drop_more}
+use Rattle.std.proofs.lemmas.Bool.{cases_Bool}
 use Rattle.rules.specs.Lists.{gathered, backwards}
 use Rattle.rules.specs.Kinds.{function_expression_kind}
 use Rattle.rules.specs.Views.{InstructionV, BlockV, Hir, function_at, is_function, block_rows}
 use Rattle.rules.specs.Drawn.{inner, inner_of, on_walk}
 use Rattle.rules.proofs.Membership.{gathered-++}
 use Rattle.rules.proofs.Steps.{pick_true, pick_false}
-use Rattle.laws.specs.Allowances.{Counts, no_counts, plus, function_counts, tally, walk_counts}
+use Rattle.laws.specs.Allowances.{Counts, plus, function_counts, tally, walk_counts}
 use Rattle.hir.specs.declared.rows.Instruction.{Instruction}
 use Rattle.hir.specs.Tables.{tables}
 use Rattle.hir.specs.View.{Rows, instruction_at, instruction_view, instructions_at, view}
@@ -86,9 +85,6 @@ module _ (d : ℕ) (h : Hir) where
   next_walks bs k l e =
       let rest = walks_counts d h (inner_of (drop (k + 1) bs)) in
       record { parts = ap (walks_counts d h) (block_first bs k l) ∙ walks_both (inner (backwards (block_rows bs k))) (inner_of (drop (k + 1) bs)) ∙ ap (λ (x : Counts). plus x rest) (rows_back (block_rows bs k) ∙ sym e) }
-
-  pub no_blocks : (bs : List BlockV) (k : ℕ) → length bs ≤ k → walks_counts d h (inner_of (drop k bs)) ≡ no_counts
-  no_blocks bs k l = ap (λ (cs : List BlockV). walks_counts d h (inner_of cs)) (drop_all k bs l)
 
 -- the function first, then its inner functions
 pub whole_walk : (n : ℕ) (h : Hir) (f : ℕ) → 0 < n → plus (function_counts (function_at h f)) (walks_counts (n - 1) h (inner_of (function_at h f).blocks)) ≡ walk_counts n h f
