@@ -1,4 +1,4 @@
 pub mod Sums
 pub mod Elements
-pub mod Nexts
+pub mod Blocks
 pub mod Walks

@@ -29,9 +29,6 @@ plus_assoc x y z = same_counts (plus (plus x y) z) (plus x (plus y z)) (omega ar
 pub plus_comm : (x y : Counts) → plus x y ≡ plus y x
 plus_comm x y = same_counts (plus x y) (plus y x) (omega arith)
 
-pub plus_none : (x : Counts) → plus x no_counts ≡ x
-plus_none x = same_counts (plus x no_counts) x (omega arith)
-
 pub none_plus : (x : Counts) → plus no_counts x ≡ x
 none_plus x = same_counts (plus no_counts x) x (omega arith)
 

@@ -177,7 +177,7 @@ fn inner_tally(list: RowList<'_, '_>, depth: u32) -> Option<Tally>
     Some(sum)
 }
 
-#[tactic(auto, using(crate::proofs::Nexts::first_block))]
+#[tactic(auto, using(crate::proofs::Blocks::first_block))]
 fn function_tally(function: StoredFunction<'_, '_>) -> Option<Tally>
     ensures { Tallied result (function_counts (function_seen function.entry)) }
 {
