@@ -44,18 +44,18 @@ pub record Marking (base turn : ℕ) (whole rest before now : List ℕ) : Type 0
   pub split : gone ++ rest ≡ whole
   pub marked : Marked base turn turn gone before now
 
-pub left_as : (base turn : ℕ) (whole rest rest' before now : List ℕ) → rest ≡ rest' → Marking base turn whole rest before now → Marking base turn whole rest' before now
-left_as base turn whole rest rest' before now e s = subst (λ zs. Marking base turn whole zs before now) e s
+pub left_as : {base turn : ℕ} {whole rest rest' before now : List ℕ} → rest ≡ rest' → Marking base turn whole rest before now → Marking base turn whole rest' before now
+left_as {base} {turn} {whole} {before = before} {now = now} e s = subst (λ zs. Marking base turn whole zs before now) e s
 
-pub one_more : (base turn x : ℕ) (whole rest before now after : List ℕ) → base < turn → Marking base turn whole (x ∷ rest) before now → Marked base turn turn (x ∷ []) now after → Marking base turn whole rest before after
-one_more base turn x whole rest before now after l s m = record {
+pub one_more : {base turn x : ℕ} {whole rest before now after : List ℕ} → base < turn → Marking base turn whole (x ∷ rest) before now → Marked base turn turn (x ∷ []) now after → Marking base turn whole rest before after
+one_more {base} {turn} {x} {whole} {rest} {before} {now} {after} l s m = record {
   gone = s.gone ++ (x ∷ []);
   split = append_assoc s.gone (x ∷ []) rest ∙ s.split;
   marked = then_after base turn turn turn l (omega arith) s.gone (x ∷ []) before now after s.marked m;
 }
 
-pub not_marked : (base turn x : ℕ) (whole rest before now : List ℕ) → Marking base turn whole (x ∷ rest) before now → (Markable base (x ∷ []) now → ⊥) → Markable base whole before → ⊥
-not_marked base turn x whole rest before now s u m = u (able_left base (x ∷ []) rest now (able_after base turn turn s.gone (x ∷ rest) before now s.marked (subst (λ zs. Markable base zs before) (sym s.split) m)))
+pub not_marked : {base turn x : ℕ} {whole rest before now : List ℕ} → Marking base turn whole (x ∷ rest) before now → (Markable base (x ∷ []) now → ⊥) → Markable base whole before → ⊥
+not_marked {base} {turn} {x} {whole} {rest} {before} {now} s u m = u (able_left base (x ∷ []) rest now (able_after base turn turn s.gone (x ∷ rest) before now s.marked (subst (λ zs. Markable base zs before) (sym s.split) m)))
 
 -- Reads: each place by itself.
 pub record InTime (turn : ℕ) (ms : List ℕ) (p : Place) : Type 0 where

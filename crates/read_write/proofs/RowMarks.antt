@@ -15,35 +15,39 @@ use Rattle.read_write.proofs.PlaceMarks.{writes_are, reads_are}
 use Rattle.read_write.proofs.Marks.{then_after, then_before, able_left, able_right, able_after, able_before}
 
 -- a row and its places, as they are seen
-module _ (r : Rows) (text : Bytes) (i : InstructionV) (x : Instruction) (ps : List Place) (e : i ≡ instruction_view r x) (m : map (place_view text) ps ≡ i.places) where
+pub record RowSeen (r : Rows) (text : Bytes) (i : InstructionV) (x : Instruction) (ps : List Place) : Type 0 where
+  pub row : i ≡ instruction_view r x
+  pub places : map (place_view text) ps ≡ i.places
+
+module _ {r : Rows} {text : Bytes} {i : InstructionV} {x : Instruction} {ps : List Place} (seen : RowSeen r text i x ps) where
   abbrev written : List ℕ
   written = x.result.identifier.0 ∷ written_in ps
 
   writes_of : writes i ≡ written
   writes_of =
-      ap (λ n. n ∷ identifiers_of (select is_written i.places)) (ap (λ (v : InstructionV). v.result.identifier) e)
-      ∙ ap (λ qs. x.result.identifier.0 ∷ identifiers_of (select is_written qs)) (sym m)
+      ap (λ n. n ∷ identifiers_of (select is_written i.places)) (ap (λ (v : InstructionV). v.result.identifier) seen.row)
+      ∙ ap (λ qs. x.result.identifier.0 ∷ identifiers_of (select is_written qs)) (sym seen.places)
       ∙ ap (λ zs. x.result.identifier.0 ∷ zs) (writes_are text ps)
 
   reads_of : reads i ≡ read_in ps
-  reads_of = ap (λ qs. identifiers_of (select is_read qs)) (sym m) ∙ reads_are text ps
+  reads_of = ap (λ qs. identifiers_of (select is_read qs)) (sym seen.places) ∙ reads_are text ps
 
   pub phi_is : is_phi i ≡ eqb x.kind phi_kind
-  phi_is = ap is_phi e
+  phi_is = ap is_phi seen.row
 
   -- what it writes can be marked, the result before the places
-  module _ (base turn : ℕ) (ms : List ℕ) (s : RowSound base turn i ms) where
+  module _ {base turn : ℕ} {ms : List ℕ} (s : RowSound base turn i ms) where
     able_written : Markable base written ms
     able_written = subst (λ zs. Markable base zs ms) writes_of s.able
 
     pub result_able : Markable base (x.result.identifier.0 ∷ []) ms
     result_able = able_left base (x.result.identifier.0 ∷ []) (written_in ps) ms able_written
 
-    pub places_able : (ns : List ℕ) → Marked base turn turn (x.result.identifier.0 ∷ []) ms ns → Markable base (written_in ps) ns
-    places_able ns p = able_after base turn turn (x.result.identifier.0 ∷ []) (written_in ps) ms ns p able_written
+    pub places_able : {ns : List ℕ} → Marked base turn turn (x.result.identifier.0 ∷ []) ms ns → Markable base (written_in ps) ns
+    places_able {ns} p = able_after base turn turn (x.result.identifier.0 ∷ []) (written_in ps) ms ns p able_written
 
   -- all that it writes is marked
-  module _ (base turn : ℕ) (above : base < turn) (ms ns os : List ℕ) (p : Marked base turn turn (x.result.identifier.0 ∷ []) ms ns) (q : Marked base turn turn (written_in ps) ns os) where
+  module _ {base turn : ℕ} {ms ns os : List ℕ} (above : base < turn) (p : Marked base turn turn (x.result.identifier.0 ∷ []) ms ns) (q : Marked base turn turn (written_in ps) ns os) where
     all_writes : Marked base turn turn (writes i) ms os
     all_writes = subst (λ zs. Marked base turn turn zs ms os) (sym writes_of) (then_after base turn turn turn above (omega arith) (x.result.identifier.0 ∷ []) (written_in ps) ms ns os p q)
 
@@ -100,12 +104,12 @@ pub record RowsMarked (base turn : ℕ) (r : Rows) (whole left before now : List
   pub done : RowsDone base turn (instructions_at r gone) before now
 
 -- the last of those that are left is next
-module _ (base turn : ℕ) (r : Rows) (whole left left' before now : List ℕ) (n : ℕ) (next : left ≡ left' ++ (n ∷ [])) (s : RowsMarked base turn r whole left before now) where
+module _ {base turn : ℕ} {r : Rows} {whole left before now : List ℕ} (left' : List ℕ) (n : ℕ) (next : left ≡ left' ++ (n ∷ [])) (s : RowsMarked base turn r whole left before now) where
   around : whole ≡ left' ++ (n ∷ s.gone)
   around = s.split ∙ ap (λ zs. zs ++ s.gone) next ∙ append_assoc left' (n ∷ []) s.gone
 
-  pub rows_more : (after : List ℕ) → base < turn → RowDone base turn (instruction_at r n) now after → RowsMarked base turn r whole left' before after
-  rows_more after l d = record { gone = n ∷ s.gone; split = around; done = row_more base turn (instruction_at r n) (instructions_at r s.gone) before now after l s.done d }
+  pub rows_more : {after : List ℕ} → base < turn → RowDone base turn (instruction_at r n) now after → RowsMarked base turn r whole left' before after
+  rows_more {after} l d = record { gone = n ∷ s.gone; split = around; done = row_more base turn (instruction_at r n) (instructions_at r s.gone) before now after l s.done d }
 
   pub rows_refused : ((x : ℕ) → get_or before x 0 < turn) → (RowSound base turn (instruction_at r n) now → ⊥) → RowsSound base (instructions_at r whole) before → ⊥
   rows_refused low u h =

@@ -8,18 +8,15 @@ use Rattle.read_write.proofs.rows.function_sound.Goals as goal
 
 pub returns-then-not-list_sound : goal.returns-then-not-list_sound
 returns-then-not-list_sound c =
-    block_refused c.args.base c.loop-k.k (function_seen c.args.function) c.args.marks.now c.loop-k.marks (omega arith) c.requires.low c.loop-k.invariant
-    (subst (λ is. RowsSound c.args.base is c.loop-k.marks → ⊥) c.list.ensures.seen c.if-not-list_sound.ensures)
+    block_refused (function_seen c.args.function) (omega arith) c.requires.low c.loop-k.invariant (subst (λ is. RowsSound c.args.base is c.loop-k.marks → ⊥) c.list.ensures.seen c.if-not-list_sound.ensures)
 
 pub loop-k-preserved : goal.loop-k-preserved
 loop-k-preserved c =
-    block_more c.args.base c.loop-k.k (function_seen c.args.function).blocks c.args.marks.now c.loop-k.marks c.list_sound.new.marks (omega arith) c.loop-k.invariant
-    (subst (λ is. RowsDone c.args.base (c.args.base + c.loop-k.k + 1) is c.loop-k.marks c.list_sound.new.marks) c.list.ensures.seen c.if-not-list_sound.ensures)
+    block_more (omega arith) c.loop-k.invariant (subst (λ is. RowsDone c.args.base (c.args.base + c.loop-k.k + 1) is c.loop-k.marks c.list_sound.new.marks) c.list.ensures.seen c.if-not-list_sound.ensures)
 
 pub returns : goal.returns
 returns c =
-    let g = function_seen c.args.function in
     let few = (function_fits (tables c.args.function.store.now) c.args.function.legible c.args.function.id.0 c.args.function.used).blocks in (
-      all_blocks_done c.args.base c.loop-k.k g c.args.marks.now c.loop-k.marks (omega arith) c.loop-k.invariant,
-      λ x. let m = at_most c.args.base c.loop-k.k g.blocks c.args.marks.now c.loop-k.marks c.requires.low c.loop-k.invariant x in omega (arith, m, c.loop-k.auto.k-end),
+      all_blocks_done (function_seen c.args.function) (omega arith) c.loop-k.invariant,
+      λ x. let m = at_most c.requires.low c.loop-k.invariant x in omega (arith, m, c.loop-k.auto.k-end),
     )

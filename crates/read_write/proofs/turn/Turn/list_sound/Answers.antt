@@ -1,14 +1,8 @@
-use Rattle.hir.specs.Tables.{tables}
-use Rattle.hir.specs.View.{rows}
 use Rattle.read_write.proofs.RowMarks.{rows_more, rows_refused}
 use Rattle.read_write.proofs.turn.Turn.list_sound.Goals as goal
 
 pub returns-then-not-row_sound : goal.returns-then-not-row_sound
-returns-then-not-row_sound c =
-    rows_refused c.args.self.base c.args.self.own (rows (tables c.args.list.store.now)) c.args.list.numbers.now _ _ c.args.marks.now c.loop-number.marks c.in-Some.number.now
-    c.in-Some.ensures.steps c.loop-number.invariant c.requires.low c.if-not-row_sound.ensures
+returns-then-not-row_sound c = rows_refused _ c.in-Some.number.now c.in-Some.ensures.steps c.loop-number.invariant c.requires.low c.if-not-row_sound.ensures
 
 pub loop-number-preserved : goal.loop-number-preserved
-loop-number-preserved c =
-    rows_more c.args.self.base c.args.self.own (rows (tables c.args.list.store.now)) c.args.list.numbers.now _ _ c.args.marks.now c.loop-number.marks c.in-Some.number.now
-    c.in-Some.ensures.steps c.loop-number.invariant c.row_sound.new.marks c.args.self.above c.if-not-row_sound.ensures
+loop-number-preserved c = rows_more _ c.in-Some.number.now c.in-Some.ensures.steps c.loop-number.invariant c.args.self.above c.if-not-row_sound.ensures

@@ -6,8 +6,5 @@ use Rattle.read_write.proofs.turn.Turn.reads_in_time.Goals as goal
 
 pub returns : goal.returns
 returns c =
-    let own = c.args.self.own in
-    let marks = c.args.marks.now in
-    let places = c.args.places.now in
-    when_like c.all.result (all_in_time own marks places) (each_in_time own marks places)
-    (all_tells places (InTime own marks) _ _ c.all.result c.all.ensures.ran (YieldsList-from_slice places cc) (λ x b q k. search (rules, tests)))
+    when_like c.all.result (all_in_time c.args.self.own c.args.marks.now c.args.places.now) (each_in_time c.args.self.own c.args.marks.now c.args.places.now)
+    (all_tells c.args.places.now (InTime c.args.self.own c.args.marks.now) _ _ c.all.result c.all.ensures.ran (YieldsList-from_slice c.args.places.now cc) (λ x b q k. search (rules, tests)))

@@ -5,42 +5,32 @@ use Rattle.hir.specs.View.{rows, view, instruction_at}
 use Rattle.refusals.specs.Walked.{is_phi}
 use Rattle.refusals.proofs.Tests.{when_through}
 use Rattle.read_write.specs.Written.{RowDone, RowSound}
-use Rattle.read_write.proofs.RowMarks.{phi_is, places_able, result_able, reads_sound, row_done}
+use Rattle.read_write.proofs.RowMarks.{RowSeen, phi_is, places_able, result_able, reads_sound, row_done}
 use Rattle.read_write.proofs.turn.Turn.row_sound.Goals as goal
 use Rattle.read_write.proofs.turn.Turn.row_sound.Goals.{then-not-mark-via-then-not-mark, then-not-mark-via-else-not-mark+then-not-mark_places}
 
 pub returns-then-not-mark : goal.returns-then-not-mark
 returns-then-not-mark c =
     let t = tables c.args.list.store.now in
-    let i = instruction_at (rows t) c.args.number in
+    let seen : RowSeen (rows t) (view t).text (instruction_at (rows t) c.args.number) c.row-row.result c.places-places.result.now = record { row = c.row-row.ensures.seen; places = c.places-places.ensures.seen } in
     λ s. elim c.then-not-mark.branch [
-      | then-not-mark-via-then-not-mark w ↦ w.if-not-mark.ensures (result_able (rows t) (view t).text i c.row-row.result c.places-places.result.now c.row-row.ensures.seen c.places-places.ensures.seen c.args.self.base c.args.self.own c.args.marks.now s)
-      | then-not-mark-via-else-not-mark+then-not-mark_places w ↦
-          w.if-not-mark_places.ensures (places_able (rows t) (view t).text i c.row-row.result c.places-places.result.now c.row-row.ensures.seen c.places-places.ensures.seen c.args.self.base c.args.self.own c.args.marks.now s c.mark.new.marks w.if-not-mark.ensures)
+      | then-not-mark-via-then-not-mark w ↦ w.if-not-mark.ensures (result_able seen s)
+      | then-not-mark-via-else-not-mark+then-not-mark_places w ↦ w.if-not-mark_places.ensures (places_able seen s w.if-not-mark.ensures)
     ]
 
 pub returns-then-has_kind : goal.returns-then-has_kind
 returns-then-has_kind c =
     let t = tables c.args.list.store.now in
     let i = instruction_at (rows t) c.args.number in
-    let ms = c.args.marks.now in
-    let os = c.mark_places.new.marks in
-    let base = c.args.self.base in
-    let own = c.args.self.own in
-    subst (λ b. MatchBool b (RowDone base own i ms os) (RowSound base own i ms → ⊥)) (sym c.if-has_kind.true)
-    (row_done (rows t) (view t).text i c.row-row.result c.places-places.result.now c.row-row.ensures.seen c.places-places.ensures.seen base own c.args.self.above ms c.mark.new.marks os c.if-not-mark.ensures c.if-not-mark_places.ensures
-    (λ f. absurd (both_ways (is_phi i) f (phi_is (rows t) (view t).text i c.row-row.result c.places-places.result.now c.row-row.ensures.seen c.places-places.ensures.seen ∙ sym c.has_kind.ensures ∙ c.if-has_kind.true))))
+    let seen : RowSeen (rows t) (view t).text i c.row-row.result c.places-places.result.now = record { row = c.row-row.ensures.seen; places = c.places-places.ensures.seen } in
+    subst (λ b. MatchBool b (RowDone c.args.self.base c.args.self.own i c.args.marks.now c.mark_places.new.marks) (RowSound c.args.self.base c.args.self.own i c.args.marks.now → ⊥)) (sym c.if-has_kind.true)
+    (row_done seen c.args.self.above c.if-not-mark.ensures c.if-not-mark_places.ensures (λ f. absurd (both_ways (is_phi i) f (phi_is seen ∙ sym c.has_kind.ensures ∙ c.if-has_kind.true))))
 
 pub returns-else-has_kind : goal.returns-else-has_kind
 returns-else-has_kind c =
     let t = tables c.args.list.store.now in
-    let i = instruction_at (rows t) c.args.number in
-    let ms = c.args.marks.now in
-    let os = c.mark_places.new.marks in
-    let base = c.args.self.base in
-    let own = c.args.self.own in
+    let seen : RowSeen (rows t) (view t).text (instruction_at (rows t) c.args.number) c.row-row.result c.places-places.result.now = record { row = c.row-row.ensures.seen; places = c.places-places.ensures.seen } in
     when_through c.reads_in_time.result
-    (λ u. row_done (rows t) (view t).text i c.row-row.result c.places-places.result.now c.row-row.ensures.seen c.places-places.ensures.seen base own c.args.self.above ms c.mark.new.marks os c.if-not-mark.ensures c.if-not-mark_places.ensures (λ _. u))
-    (λ u s. u (reads_sound (rows t) (view t).text i c.row-row.result c.places-places.result.now c.row-row.ensures.seen c.places-places.ensures.seen base own c.args.self.above ms c.mark.new.marks os c.if-not-mark.ensures c.if-not-mark_places.ensures
-    (phi_is (rows t) (view t).text i c.row-row.result c.places-places.result.now c.row-row.ensures.seen c.places-places.ensures.seen ∙ sym c.has_kind.ensures ∙ c.if-has_kind.false) s))
+    (λ u. row_done seen c.args.self.above c.if-not-mark.ensures c.if-not-mark_places.ensures (λ _. u))
+    (λ u s. u (reads_sound seen c.args.self.above c.if-not-mark.ensures c.if-not-mark_places.ensures (phi_is seen ∙ sym c.has_kind.ensures ∙ c.if-has_kind.false) s))
     c.reads_in_time.ensures
