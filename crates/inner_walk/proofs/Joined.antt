@@ -1,6 +1,6 @@
 -- Functions passed one after another.
 use Rattle.std.proofs.Common.{◌≡◌, ℕ, ◌<◌, false, List, [], ◌∷◌, ◌++◌, length, get_or, set, sym, refl, subst, inl, inr, arith, get_or-set_other, get_or-set_same}
-use Rattle.std.proofs.lemmas.Bool.{cases_eq}
+use Rattle.std.proofs.lemmas.Bool.{both_ways, cases_eq}
 use Rattle.rules.specs.Views.{Hir, function_at}
 use Rattle.rules.proofs.Membership.{In, in_out, in_cases, in_left, in_right, in_head, distinct_left, distinct_right, distinct_apart}
 use Rattle.refusals.proofs.Distinct.{distinct_join, alone}
@@ -58,4 +58,13 @@ one h f ms l a z = record {
     | inl e ↦ inr (subst (λ y. In y (f ∷ [])) (sym e) (in_head f []))
     | inr n ↦ let e = get_or-set_other ms f x 1 0 n in inl (omega arith)
   ];
+}
+
+-- none at all
+pub nobody : (h : Hir) (ms : List ℕ) → Passed h [] ms ms
+nobody h ms = record {
+  able = record { once = tt; own = λ g i. absurd (both_ways false refl i); free = λ g i. absurd (both_ways false refl i) };
+  marked = λ g i. absurd (both_ways false refl i);
+  kept = λ x i. i;
+  only = λ x i. inl i;
 }

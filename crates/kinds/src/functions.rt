@@ -48,6 +48,9 @@ impl fmt::Display for FunctionType {
     }
 }
 
+// What a Destructure of an object pattern adds, in its detail, to the number of its `InstructionKind`.
+pub const OBJECT_PATTERN: u64 = 8;
+
 // How a variable is bound.
 #[derive(Clone, Copy, PartialEq, Eq, Debug)]
 pub enum InstructionKind {

@@ -9,7 +9,7 @@ mod roles;
 mod values;
 
 pub use blocks::{BlockKind, ReturnVariant, Terminal};
-pub use functions::{FunctionType, InstructionKind};
+pub use functions::{FunctionType, InstructionKind, OBJECT_PATTERN};
 pub use roles::{Effect, Role};
 use std::error::Error;
 use std::fmt;

@@ -14,9 +14,9 @@ use Rattle.hir.specs.WellFormed.{RunFits, Counted, Clear, Pairwise, Unlike, Bloc
 use Rattle.hir.proofs.Runs.{getD_run, covers, covered, clear_other_way}
 use Rattle.hir.proofs.Pairs.{pairwise_at}
 use Rattle.hir.specs.Tables.{Tables}
-use Rattle.refusals.specs.Form.{BlockFormed, FunctionFormed, RowsApart, RowsFormed}
+use Rattle.refusals.specs.Form.{BlockFormed, RowsApart, RowsFormed}
 use Rattle.listed_once.specs.Marking.{AllClear, list_or_preds}
-use Rattle.listed_once.specs.Listing.{listing, listed_at, ListsFit, ListedBelow, ListedOnce, BlockNamed}
+use Rattle.listed_once.specs.Listing.{listing, listed_at, ListsFit, ListedOnce, BlockNamed}
 use Rattle.listed_once.proofs.Marks.{as_list, as_preds}
 
 -- what the tests show
@@ -140,19 +140,5 @@ then_lists c r a i j hi hj ne =
 pub lists_fit : (t : Tables) (m : ℕ) → RowsFormed t.counts (rows t) → t.counts.numbers ≤ m → (b : ℕ) → b < length (rows t).blocks → RunFits (get_or (rows t).blocks b null_block).instructions m
 lists_fit t m f h b l = let g = (All-get_or (BlockFormed t.counts (rows t).places) (rows t).blocks b null_block l f.blocks).instructions in omega arith
 
-pub preds_fit : (t : Tables) (m : ℕ) → RowsFormed t.counts (rows t) → t.counts.numbers ≤ m → (b : ℕ) → b < length (rows t).blocks → RunFits (get_or (rows t).blocks b null_block).preds m
-preds_fit t m f h b l = let g = (All-get_or (BlockFormed t.counts (rows t).places) (rows t).blocks b null_block l f.blocks).preds in omega arith
-
-pub blocks_fit : (t : Tables) (m : ℕ) → RowsFormed t.counts (rows t) → t.counts.blocks ≤ m → (f : ℕ) → f < length (rows t).functions → RunFits (get_or (rows t).functions f null_function).blocks m
-blocks_fit t m f h i l = let g = (All-get_or (FunctionFormed t.counts (rows t).places) (rows t).functions i null_function l f.functions).blocks in omega arith
-
 pub all_numbers : (t : Tables) → Counted t → t.counts.numbers ≤ length (rows t).numbers
 all_numbers t h = let e = length-take-le t.counts.numbers t.numbers (let g = h.numbers.in_table in omega arith) in omega arith
-
-pub named_below : (bs : List BasicBlock) (ns : List ℕ) (rows' blocks m : ℕ) → ListsFit bs ns → AllByRecursion (BlockNamed ns rows' blocks) bs → rows' ≤ m → ListedBelow bs ns m
-named_below bs ns rows' blocks m f a h b o hb ho =
-    let run : Run = (get_or bs b null_block).instructions in
-    let fb = f b hb in
-    let g = All-get_or (λ n. n < rows') (in_run ns run) o 0 (covered run ns o ho (omega arith)) (All-get_or (BlockNamed ns rows' blocks) bs b null_block hb a).listed in
-    let e = getD_run run ns o 0 ho in
-    omega arith

@@ -1,5 +1,6 @@
 -- Runs marked one after another: what the marks say of those so far.
-use Rattle.std.proofs.Common.{◌≡◌, ℕ, ◌+◌, ◌-◌, ◌<◌, cond, ◌⊎◌, List, length, get_or, sym, ap, ◌∙◌, subst, inl, inr, add-one, arith}
+use Rattle.std.proofs.Common.{Bool, true, false, MatchBool, ◌≤◌, ◌≡◌, ℕ, ◌+◌, ◌-◌, ◌<◌, cond, ◌⊎◌, List, length, get_or, sym, ap, ◌∙◌, subst, inl, inr, add-one, arith}
+use Rattle.std.proofs.lemmas.List.{get_or_default}
 use Rattle.std.proofs.lemmas.Bool.{cases_eq}
 use Rattle.std.proofs.lemmas.Bool.Decides.{leb_tells}
 use Rattle.hir.specs.declared.rows.Run.{Run}
@@ -7,12 +8,7 @@ use Rattle.hir.specs.declared.rows.BasicBlock.{BasicBlock}
 use Rattle.hir.specs.View.{null_block}
 use Rattle.hir.specs.WellFormed.{Clear}
 use Rattle.hir.proofs.Runs.{clear_other_way, clear_unlike}
-use Rattle.listed_once.specs.Marking.{NoMarks, Unmarked, MarksRun, AllClear, list_or_preds}
-
-pub record Marked (run : ℕ → Run) (n : ℕ) (ms : List ℕ) : Type 0 where
-  pub apart : AllClear run n
-  pub marked : (a k : ℕ) → a < n → k < (run a).count → 0 < get_or ms ((run a).first + k) 0
-  pub seen : (x : ℕ) → 0 < get_or ms x 0 → (a : ℕ) × (k : ℕ) × (a < n) × (k < (run a).count) × ((run a).first + k ≡ x)
+use Rattle.listed_once.specs.Marking.{NoMarks, Unmarked, Marked, MarksRun, AllClear, list_or_preds}
 
 pub at_first : (run : ℕ → Run) (ms : List ℕ) → NoMarks ms → Marked run 0 ms
 at_first run ms z = record { apart = λ a b h. absurd (omega arith); marked = λ a k h. absurd (omega arith); seen = λ x h. let e = z x in absurd (omega arith) }
@@ -81,14 +77,6 @@ refused run n m ms s u h c = u (λ k g. elim (cases_eq (get_or ms ((run n).first
   | inr e ↦ let w = s.seen ((run n).first + k) (omega arith) in absurd (clear_unlike (run w.0) (run n) w.1 k (c w.0 n (omega arith) h (omega arith)) w.3 g w.4)
 ])
 
--- only the first n runs matter
-pub marked_like : (run run' : ℕ → Run) (n : ℕ) (ms : List ℕ) → ((a : ℕ) → a < n → run a ≡ run' a) → Marked run n ms → Marked run' n ms
-marked_like run run' n ms e s = record {
-  apart = λ a b ha hb ne. subst (λ x. Clear x (run' b)) (e a ha) (subst (Clear (run a)) (e b hb) (s.apart a b ha hb ne));
-  marked = λ a k ha. subst (λ x. k < x.count → 0 < get_or ms (x.first + k) 0) (e a ha) (s.marked a k ha);
-  seen = λ x h. let w = s.seen x h in (w.0, w.1, w.2, subst (λ y. w.1 < y.count) (e w.0 w.2) w.3, subst (λ y. y.first + w.1 ≡ x) (e w.0 w.2) w.4);
-}
-
 -- the lists of blocks come first, and then their predecessor runs
 pub as_list : (bs : List BasicBlock) (a : ℕ) → a < length bs → (get_or bs a null_block).instructions ≡ list_or_preds bs a
 as_list bs a h = elim (leb_tells (a + 1) (length bs)) [
@@ -103,5 +91,14 @@ as_preds bs j = elim (leb_tells (length bs + j + 1) (length bs)) [
       ap (λ i. (get_or bs i null_block).preds) e ∙ sym (ap (λ b. cond b (get_or bs (length bs + j) null_block).instructions (get_or bs (length bs + j - length bs) null_block).preds) (rw add-one at t.0))
 ]
 
-pub one_more_as : (run : ℕ → Run) (n m : ℕ) (r : Run) (ms ns : List ℕ) → r ≡ run n → n + 1 ≡ m → Marked run n ms → MarksRun r ms ns → Marked run m ns
-one_more_as run n m r ms ns e f s h = subst (λ k. Marked run k ns) f (one_more run n ms ns s (subst (λ (x : Run). MarksRun x ms ns) e h))
+-- the same for whatever stands at a row
+pub list_at : (bs : List BasicBlock) (i : ℕ) (d : BasicBlock) (r : Run) → i < length bs → r ≡ (get_or bs i d).instructions → r ≡ list_or_preds bs (0 + i)
+list_at bs i d r l e = let z : 0 + i ≡ i = omega arith in rw z (rw (get_or_default bs i d null_block l) at e ∙ as_list bs i l)
+
+pub preds_at : (bs : List BasicBlock) (i : ℕ) (d : BasicBlock) (r : Run) → i < length bs → r ≡ (get_or bs i d).preds → r ≡ list_or_preds bs (length bs + i)
+preds_at bs i d r l e = rw (get_or_default bs i d null_block l) at e ∙ as_preds bs i
+
+-- what marking all of them tells
+pub all_clear : (r : Bool) (run : ℕ → Run) (n k : ℕ) (ms : List ℕ) → n ≡ k → MatchBool r (Marked run n ms) ((m : ℕ) → n ≤ m → AllClear run m → ⊥) → MatchBool r (AllClear run k) (AllClear run k → ⊥)
+all_clear true run n k ms e h = subst (AllClear run) e h.apart
+all_clear false run n k ms e h = λ c. h k (omega arith) c

@@ -16,7 +16,7 @@ use hir::Store;
 use lists::{lists_named, rows_once};
 use runs::{functions_apart, lists_apart};
 
-// There are marks for the list numbers, the blocks and the rows.
+// There are marks for the list numbers, the blocks and the rows: bytes and no bools, since bytes are what callers lend.
 pub fn rows_apart(store: &Store<'_>, numbers: &mut [u8], blocks: &mut [u8], rows: &mut [u8]) -> bool
     requires counted { Counted (tables store.now) }
     requires formed { RowsFormed store.now.counts (used_rows (tables store.now)) }
@@ -26,16 +26,10 @@ pub fn rows_apart(store: &Store<'_>, numbers: &mut [u8], blocks: &mut [u8], rows
     ensures { MatchBool result (RowsApart store.now.counts (used_rows (tables store.now))) (RowsApart store.now.counts (used_rows (tables store.now)) → ⊥) }
 {
     let counts = store.counts;
-    let used = &store.blocks[0..counts.blocks as usize];
-    let listed = &store.numbers[0..counts.numbers as usize];
-    if !lists_apart(used, numbers) {
-        return false;
-    }
-    if !functions_apart(&store.functions[0..counts.functions as usize], blocks) {
-        return false;
-    }
-    if !lists_named(used, listed, counts.instructions, counts.blocks) {
-        return false;
-    }
-    rows_once(used, listed, rows)
+    let used = &store.blocks[..counts.blocks as usize];
+    let listed = &store.numbers[..counts.numbers as usize];
+    lists_apart(used, numbers)
+        && functions_apart(&store.functions[..counts.functions as usize], blocks)
+        && lists_named(used, listed, counts.instructions, counts.blocks)
+        && rows_once(used, listed, rows)
 }

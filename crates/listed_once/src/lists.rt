@@ -15,30 +15,28 @@ pub fn rows_once(blocks: &[BasicBlock], numbers: &[u32], marks: &mut [u8]) -> bo
     requires clear { NoMarks marks.old }
     ensures { MatchBool result (ListedOnce blocks.now numbers.now) (ListedOnce blocks.now numbers.now → ⊥) }
 {
-    for i in 0..blocks.len() {
-        let list = blocks[i].instructions;
-        for j in 0..list.count as usize {
-            let row = numbers[list.first as usize + j] as usize;
-            if marks[row] != 0 {
+    for block in blocks {
+        let list = block.instructions;
+        let first = list.first as usize;
+        for row in &numbers[first..first + list.count as usize] {
+            let mark = &mut marks[*row as usize];
+            if *mark != 0 {
                 return false;
             }
-            marks[row] = 1;
+            *mark = 1;
         }
     }
     true
 }
 
-// Lists name used rows, and predecessors used blocks.
+// Lists name used rows, and predecessors used blocks. No `all`, since what `run_below` asks holds of these blocks alone.
 pub fn lists_named(blocks: &[BasicBlock], numbers: &[u32], rows: u32, used: u32) -> bool
     requires lists { (b : ℕ) → b < length blocks.now → RunFits (slice_index_or blocks.now b null_block).instructions (length numbers.now) }
     requires preds { (b : ℕ) → b < length blocks.now → RunFits (slice_index_or blocks.now b null_block).preds (length numbers.now) }
     ensures { MatchBool result (AllByRecursion (BlockNamed numbers.now rows used) blocks.now) (AllByRecursion (BlockNamed numbers.now rows used) blocks.now → ⊥) }
 {
-    for i in 0..blocks.len() {
-        if !run_below(blocks[i].instructions, numbers, rows) {
-            return false;
-        }
-        if !run_below(blocks[i].preds, numbers, used) {
+    for block in blocks {
+        if !run_below(block.instructions, numbers, rows) || !run_below(block.preds, numbers, used) {
             return false;
         }
     }
@@ -53,14 +51,8 @@ fn run_below(run: Run, numbers: &[u32], bound: u32) -> bool
     all_below(&numbers[first..first + run.count as usize], bound)
 }
 
-// Every number is below the bound.
 fn all_below(numbers: &[u32], bound: u32) -> bool
     ensures { MatchBool result (AllByRecursion (λ n. n < bound) numbers.now) (AllByRecursion (λ n. n < bound) numbers.now → ⊥) }
 {
-    for number in numbers {
-        if *number >= bound {
-            return false;
-        }
-    }
-    true
+    numbers.iter().all(|number| *number < bound)
 }

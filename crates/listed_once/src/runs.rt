@@ -1,9 +1,22 @@
-ghost use Rattle.std.specs.Prelude.{ℕ, ◌+◌, ◌<◌, ◌≤◌, length, MatchBool, slice_index_or};
+ghost use Rattle.std.specs.Prelude.{◌≡◌, ℕ, ◌+◌, ◌<◌, ◌≤◌, length, replicate, MatchBool, slice_index_or};
+ghost use Rattle.std.specs.List.{AllByRecursion};
+ghost use Rattle.std.specs.Fn.{FnReturnsAt};
+ghost use Rattle.hir.specs.declared.rows.Run.{Run};
 ghost use Rattle.hir.specs.View.{null_block, null_function};
 ghost use Rattle.hir.specs.WellFormed.{RunFits};
-ghost use Rattle.listed_once.specs.Marking.{AllClear, list_or_preds, MarksRun, NoMarks, Unmarked};
+ghost use Rattle.listed_once.specs.Marking.{AllClear, list_or_preds, Marked, MarksRun, NoMarks, RunsAre, RunsFit, Unmarked};
 
 use hir::{BasicBlock, HirFunction, Run};
+
+// Marks all; true if none was marked.
+fn mark_all(marks: &mut [u8]) -> bool
+    ensures free { MatchBool result (AllByRecursion (λ m. m ≡ 0) marks.old) (AllByRecursion (λ m. m ≡ 0) marks.old → ⊥) }
+    ensures marked { marks.new ≡ replicate (length marks.old) 1 }
+{
+    let free = marks.iter().all(|mark| *mark == 0);
+    marks.fill(1);
+    free
+}
 
 // Marks what a run covers; false if some of it is marked already.
 fn mark_run(run: Run, marks: &mut [u8]) -> bool
@@ -11,11 +24,20 @@ fn mark_run(run: Run, marks: &mut [u8]) -> bool
     ensures { MatchBool result (MarksRun run marks.old marks.new) (Unmarked run marks.old → ⊥) }
 {
     let first = run.first as usize;
-    for k in 0..run.count as usize {
-        if marks[first + k] != 0 {
+    mark_all(&mut marks[first..first + run.count as usize])
+}
+
+// Marks the runs of rows one after another; false if a run covers what is marked already.
+fn mark_runs<T, F: Fn(&T) -> Run>(rows: &[T], run_of: F, marks: &mut [u8]) -> bool
+    requires callable { F.IsAlwaysCallable run_of }
+    requires fit { RunsFit (FnReturnsAt F.Fn run_of) rows.now (length marks.old) }
+    ensures { (run : ℕ → Run) (n : ℕ) → RunsAre (FnReturnsAt F.Fn run_of) rows.now run n → Marked run n marks.old
+        → MatchBool result (Marked run (n + length rows.now) marks.new) ((m : ℕ) → n + length rows.now ≤ m → AllClear run m → ⊥) }
+{
+    for row in rows {
+        if !mark_run(run_of(row), marks) {
             return false;
         }
-        marks[first + k] = 1;
     }
     true
 }
@@ -27,17 +49,8 @@ pub fn lists_apart(blocks: &[BasicBlock], marks: &mut [u8]) -> bool
     requires clear { NoMarks marks.old }
     ensures { MatchBool result (AllClear (list_or_preds blocks.now) (length blocks.now + length blocks.now)) (AllClear (list_or_preds blocks.now) (length blocks.now + length blocks.now) → ⊥) }
 {
-    for i in 0..blocks.len() {
-        if !mark_run(blocks[i].instructions, marks) {
-            return false;
-        }
-    }
-    for j in 0..blocks.len() {
-        if !mark_run(blocks[j].preds, marks) {
-            return false;
-        }
-    }
-    true
+    mark_runs(blocks, |block| block.instructions, marks)
+        && mark_runs(blocks, |block| block.preds, marks)
 }
 
 // No block is in two functions.
@@ -46,10 +59,5 @@ pub fn functions_apart(functions: &[HirFunction], marks: &mut [u8]) -> bool
     requires clear { NoMarks marks.old }
     ensures { MatchBool result (AllClear (λ f. (slice_index_or functions.now f null_function).blocks) (length functions.now)) (AllClear (λ f. (slice_index_or functions.now f null_function).blocks) (length functions.now) → ⊥) }
 {
-    for i in 0..functions.len() {
-        if !mark_run(functions[i].blocks, marks) {
-            return false;
-        }
-    }
-    true
+    mark_runs(functions, |function| function.blocks, marks)
 }

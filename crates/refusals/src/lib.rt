@@ -9,7 +9,7 @@ use std::alloc::AllocError;
 
 // In the order in which they are tried; the first that holds is the answer. Want of memory is no statement about the store, so its number
 // is above all others.
-#[derive(Clone, Copy)]
+#[derive(Clone, Copy, PartialEq, Eq, Debug)]
 pub enum Refusal {
     UsedCount = 1,
     FunctionNumber = 2,
@@ -23,11 +23,11 @@ pub enum Refusal {
     Memory = 255,
 }
 
-impl Refusal {
-    pub fn number(&self) -> u8
-        ensures { result ≡ number_of self.now }
-    {
-        *self as u8
+impl From<Refusal> for u8 {
+    ghost from_gives = { λ refusal n. n ≡ number_of refusal };
+
+    fn from(refusal: Refusal) -> u8 {
+        refusal as u8
     }
 }
 

@@ -1,68 +1,58 @@
-ghost use Rattle.std.specs.Prelude.{◌≡◌, ℕ, ◌≤◌, length, MatchBool};
+ghost use Rattle.std.specs.Prelude.{◌≡◌, MatchBool};
 ghost use Rattle.std.specs.List.{AllByRecursion};
+ghost use Rattle.kinds.specs.Roles.{number_of_role};
 ghost use Rattle.hir.specs.WellFormed.{RunFits};
 ghost use Rattle.hir.specs.declared.rows.Place.{Place};
 ghost use Rattle.refusals.specs.Form.{BlockFormed, FunctionFormed, RunOf};
 
+use super::form::Used;
 use super::places::{name_if_fits, place_formed};
-use hir::{BasicBlock, Counts, HirFunction, Place, Run};
+use hir::{BasicBlock, HirFunction, Place, Run, used_run};
+use kinds::{BlockKind, FunctionType, Role, Terminal};
 
-// `places` has the used places.
-pub fn blocks_formed(rows: &[BasicBlock], places: &[Place], counts: Counts) -> bool
-    requires { counts.places ≤ length places.now }
-    ensures { MatchBool result (AllByRecursion (BlockFormed counts places.now) rows.now) (AllByRecursion (BlockFormed counts places.now) rows.now → ⊥) }
-{
-    for row in rows {
-        if !block_formed(*row, places, counts) {
-            return false;
-        }
+impl Used<'_> {
+    pub fn blocks_formed(&self, rows: &[BasicBlock]) -> bool
+        ensures { MatchBool result (AllByRecursion (BlockFormed self.now.counts self.now.places.now) rows.now) (AllByRecursion (BlockFormed self.now.counts self.now.places.now) rows.now → ⊥) }
+    {
+        rows.iter().all(|row| self.block_formed(row))
     }
-    true
-}
 
-fn block_formed(row: BasicBlock, places: &[Place], counts: Counts) -> bool
-    requires { counts.places ≤ length places.now }
-    ensures { MatchBool result (BlockFormed counts places.now row) (BlockFormed counts places.now row → ⊥) }
-{
-    if row.kind > 4 || row.terminal < 1 || row.terminal > 21 {
-        return false;
+    fn block_formed(&self, row: &BasicBlock) -> bool
+        ensures { MatchBool result (BlockFormed self.now.counts self.now.places.now row.now) (BlockFormed self.now.counts self.now.places.now row.now → ⊥) }
+    {
+        BlockKind::try_from(row.kind).is_ok()
+            && Terminal::try_from(row.terminal).is_ok()
+            && run_fits(row.instructions, self.counts.numbers)
+            && run_fits(row.preds, self.counts.numbers)
+            && self.all_of_role(row.places, Role::Read)
     }
-    if !run_fits(row.instructions, counts.numbers) || !run_fits(row.preds, counts.numbers) {
-        return false;
-    }
-    all_of_role(row.places, places, counts, 0)
-}
 
-// `places` has the used places.
-pub fn functions_formed(rows: &[HirFunction], places: &[Place], counts: Counts) -> bool
-    requires { counts.places ≤ length places.now }
-    ensures { MatchBool result (AllByRecursion (FunctionFormed counts places.now) rows.now) (AllByRecursion (FunctionFormed counts places.now) rows.now → ⊥) }
-{
-    for row in rows {
-        if !function_formed(*row, places, counts) {
-            return false;
-        }
+    pub fn functions_formed(&self, rows: &[HirFunction]) -> bool
+        ensures { MatchBool result (AllByRecursion (FunctionFormed self.now.counts self.now.places.now) rows.now) (AllByRecursion (FunctionFormed self.now.counts self.now.places.now) rows.now → ⊥) }
+    {
+        rows.iter().all(|row| self.function_formed(row))
     }
-    true
-}
 
-fn function_formed(row: HirFunction, places: &[Place], counts: Counts) -> bool
-    requires { counts.places ≤ length places.now }
-    ensures { MatchBool result (FunctionFormed counts places.now row) (FunctionFormed counts places.now row → ⊥) }
-{
-    if row.fn_type > 2 || row.returns.role != 5 {
-        return false;
+    fn function_formed(&self, row: &HirFunction) -> bool
+        ensures { MatchBool result (FunctionFormed self.now.counts self.now.places.now row.now) (FunctionFormed self.now.counts self.now.places.now row.now → ⊥) }
+    {
+        FunctionType::try_from(row.fn_type).is_ok()
+            && row.returns.is_written()
+            && place_formed(&row.returns, self.counts)
+            && name_if_fits(row.tag, self.counts)
+            && run_fits(row.blocks, self.counts.blocks)
+            && self.all_of_role(row.params, Role::Written)
+            && self.all_of_role(row.context, Role::Read)
     }
-    if !place_formed(row.returns, counts) {
-        return false;
+
+    fn all_of_role(&self, run: Run, role: Role) -> bool
+        ensures { MatchBool result (RunOf (number_of_role role) self.now.counts self.now.places.now run) (RunOf (number_of_role role) self.now.counts self.now.places.now run → ⊥) }
+    {
+        used_run(self.places, self.counts.places, run).is_some_and(|places| roles_are(
+            places,
+            u8::from(role),
+        ))
     }
-    if !name_if_fits(row.tag, counts) || !run_fits(row.blocks, counts.blocks) {
-        return false;
-    }
-    if !all_of_role(row.params, places, counts, 5) {
-        return false;
-    }
-    all_of_role(row.context, places, counts, 0)
 }
 
 fn run_fits(run: Run, used: u32) -> bool
@@ -71,24 +61,8 @@ fn run_fits(run: Run, used: u32) -> bool
     run.first as u64 + run.count as u64 <= used as u64
 }
 
-fn all_of_role(run: Run, places: &[Place], counts: Counts, role: u8) -> bool
-    requires { counts.places ≤ length places.now }
-    ensures { MatchBool result (RunOf role counts places.now run) (RunOf role counts places.now run → ⊥) }
-{
-    if !run_fits(run, counts.places) {
-        return false;
-    }
-    let first = run.first as usize;
-    roles_are(&places[first..first + run.count as usize], role)
-}
-
 fn roles_are(places: &[Place], role: u8) -> bool
     ensures { MatchBool result (AllByRecursion (λ (p : Place). p.role ≡ role) places.now) (AllByRecursion (λ (p : Place). p.role ≡ role) places.now → ⊥) }
 {
-    for place in places {
-        if place.role != role {
-            return false;
-        }
-    }
-    true
+    places.iter().all(|place| place.role == role)
 }

@@ -4,46 +4,49 @@ ghost use Rattle.hir.specs.WellFormed.{Counted, Room};
 ghost use Rattle.refusals.specs.Conditions.{FunctionGiven};
 ghost use Rattle.refusals.specs.Form.{tag_limit};
 
-use hir::{Counts, FunctionId, Store};
+use hir::{Counts, FunctionId, LIMITS, Store};
 
 // No more rows are used than a table has, nor than its limit allows.
 pub fn counts_fit(store: &Store<'_>) -> bool
     ensures { MatchBool result (Counted (tables store.now)) (Counted (tables store.now) → ⊥) }
 {
-    if !has_room(store.counts.text, 0, store.text.len(), 1048576) {
-        return false;
-    }
-    if !has_room(store.counts.identifiers, 0, store.identifiers.len(), 65535) {
-        return false;
-    }
-    if !has_room(store.counts.places, 0, store.places.len(), 262144) {
-        return false;
-    }
-    if !has_room(
-        store.counts.instructions,
-        0,
-        store.instructions.len(),
-        65535,
-    ) {
-        return false;
-    }
-    if !has_room(store.counts.numbers, 0, store.numbers.len(), 262144) {
-        return false;
-    }
-    if !has_room(store.counts.blocks, 0, store.blocks.len(), 16384) {
-        return false;
-    }
-    has_room(store.counts.functions, 0, store.functions.len(), 1024)
+    let counts = store.counts;
+    has_room(counts.text, 0, store.text.len(), LIMITS.text as u64)
+        && has_room(
+            counts.identifiers,
+            0,
+            store.identifiers.len(),
+            LIMITS.identifiers as u64,
+        )
+        && has_room(counts.places, 0, store.places.len(), LIMITS.places as u64)
+        && has_room(
+            counts.instructions,
+            0,
+            store.instructions.len(),
+            LIMITS.instructions as u64,
+        )
+        && has_room(
+            counts.numbers,
+            0,
+            store.numbers.len(),
+            LIMITS.numbers as u64,
+        )
+        && has_room(counts.blocks, 0, store.blocks.len(), LIMITS.blocks as u64)
+        && has_room(
+            counts.functions,
+            0,
+            store.functions.len(),
+            LIMITS.functions as u64,
+        )
 }
 
 // There is room for so many rows more, in the table and below the limit.
 pub fn has_room(used: u32, more: u64, rows: usize, limit: u64) -> bool
     ensures { MatchBool result (Room used more rows limit) (Room used more rows limit → ⊥) }
 {
-    match (used as u64).checked_add(more) {
-        Some(sum) => sum <= rows as u64 && sum <= limit,
-        None => false,
-    }
+    (used as u64)
+        .checked_add(more)
+        .is_some_and(|sum| sum <= rows as u64 && sum <= limit)
 }
 
 // The function that was asked for is used, and not one that outlining added.
@@ -51,15 +54,12 @@ pub fn function_given(store: &Store<'_>, function: FunctionId) -> bool
     requires { Counted (tables store.now) }
     ensures { MatchBool result (FunctionGiven (tables store.now) function.0) (FunctionGiven (tables store.now) function.0 → ⊥) }
 {
-    if function.0 >= store.counts.functions {
-        return false;
-    }
-    !store.functions[function.0 as usize].appended
+    function.0 < store.counts.functions && !store.functions[function.0 as usize].appended
 }
 
 // The tag counter and the tag mark are low enough.
 pub fn tags_low(counts: Counts) -> bool
     ensures { MatchBool result ((counts.tag_counter ≤ tag_limit) × (counts.tag_mark ≤ tag_limit)) ((counts.tag_counter ≤ tag_limit) × (counts.tag_mark ≤ tag_limit) → ⊥) }
 {
-    counts.tag_counter <= 1000000 && counts.tag_mark <= 1000000
+    counts.tag_counter <= LIMITS.tag_counter && counts.tag_mark <= LIMITS.tag_mark
 }

@@ -1,81 +1,70 @@
-ghost use Rattle.std.specs.Prelude.{ℕ, ◌<◌, ◌≤◌, length, MatchBool};
+ghost use Rattle.std.specs.Prelude.{MatchBool};
 ghost use Rattle.std.specs.List.{AllByRecursion};
-ghost use Rattle.refusals.specs.Form.{DestructureFormed, ElementFormed, InnerFormed, InstructionFormed, KindFormed, RoleFormed, TagGiven};
+ghost use Rattle.refusals.specs.Form.{DestructureFormed, ElementFormed, InnerFormed, InstructionFormed, KindFormed, TagGiven};
+ghost use Rattle.store_form.specs.Parts.{Keyed, MayFollow, ReadsOne};
 
+use super::form::Used;
 use super::places::{name_if_fits, place_formed};
-use hir::{Counts, Instruction, Name, Place};
+use hir::{Counts, Instruction, Name, Place, used_run};
+use kinds::{OBJECT_PATTERN, Role, ValueKind};
 
-// `places` has the used places.
-pub fn instructions_formed(rows: &[Instruction], places: &[Place], counts: Counts) -> bool
-    requires { counts.places ≤ length places.now }
-    ensures { MatchBool result (AllByRecursion (InstructionFormed counts places.now) rows.now) (AllByRecursion (InstructionFormed counts places.now) rows.now → ⊥) }
-{
-    for row in rows {
-        if !instruction_formed(*row, places, counts) {
-            return false;
-        }
+impl Used<'_> {
+    pub fn instructions_formed(&self, rows: &[Instruction]) -> bool
+        ensures { MatchBool result (AllByRecursion (InstructionFormed self.now.counts self.now.places.now) rows.now) (AllByRecursion (InstructionFormed self.now.counts self.now.places.now) rows.now → ⊥) }
+    {
+        rows.iter().all(|row| self.instruction_formed(row))
     }
-    true
+
+    fn instruction_formed(&self, row: &Instruction) -> bool
+        ensures { MatchBool result (InstructionFormed self.now.counts self.now.places.now row.now) (InstructionFormed self.now.counts self.now.places.now row.now → ⊥) }
+    {
+        ValueKind::try_from(row.kind).is_ok()
+            && row.result.is_written()
+            && place_formed(&row.result, self.counts)
+            && name_if_fits(row.name, self.counts)
+            && inner_formed(row, self.counts)
+            && used_run(self.places, self.counts.places, row.places).is_some_and(
+                |places| kind_formed(row, places),
+            )
+    }
 }
 
-fn instruction_formed(row: Instruction, places: &[Place], counts: Counts) -> bool
-    requires { counts.places ≤ length places.now }
-    ensures { MatchBool result (InstructionFormed counts places.now row) (InstructionFormed counts places.now row → ⊥) }
+// A function number where the kind has one, and only there.
+fn inner_formed(row: &Instruction, counts: Counts) -> bool
+    ensures { MatchBool result (InnerFormed counts row.now.kind row.now.function.0) (InnerFormed counts row.now.kind row.now.function.0 → ⊥) }
 {
-    if row.kind > 42 || row.result.role != 5 {
-        return false;
-    }
-    if !place_formed(row.result, counts) {
-        return false;
-    }
-    if !name_if_fits(row.name, counts) {
-        return false;
-    }
-    if !inner_formed(row.kind, row.function.0, counts) {
-        return false;
-    }
-    let first = row.places.first as usize;
-    let end = first + row.places.count as usize;
-    if end > counts.places as usize {
-        return false;
-    }
-    kind_formed(row, &places[first..end])
-}
-
-fn inner_formed(kind: u8, function: u32, counts: Counts) -> bool
-    ensures { MatchBool result (InnerFormed counts kind function) (InnerFormed counts kind function → ⊥) }
-{
-    match kind {
-        18 | 31 => function < counts.functions,
-        _ => function == 0,
+    if row.has_kind(ValueKind::ObjectMethod) || row.has_kind(ValueKind::FunctionExpression) {
+        row.function.0 < counts.functions
+    } else {
+        row.function.0 == 0
     }
 }
 
 // The three kinds whose places and detail have a form.
-fn kind_formed(row: Instruction, places: &[Place]) -> bool
-    ensures { MatchBool result (KindFormed row places.now) (KindFormed row places.now → ⊥) }
+fn kind_formed(row: &Instruction, places: &[Place]) -> bool
+    ensures { MatchBool result (KindFormed row.now places.now) (KindFormed row.now places.now → ⊥) }
 {
-    match row.kind {
-        7 => destructure_formed(row.detail, places),
-        16 => element_formed(row, places),
-        29 => places.is_empty() && row.name.is_some(),
+    match ValueKind::try_from(row.kind) {
+        Ok(ValueKind::Destructure) => destructure_formed(row.detail, places),
+        Ok(ValueKind::JsxExpression) => element_formed(row, places),
+        Ok(ValueKind::LoadGlobal) => places.is_empty() && row.name.is_some(),
         _ => true,
     }
 }
 
-fn element_formed(row: Instruction, places: &[Place]) -> bool
-    ensures { MatchBool result (ElementFormed row places.now) (ElementFormed row places.now → ⊥) }
+// The tag or the row's name, and places in the order of their roles.
+fn element_formed(row: &Instruction, places: &[Place]) -> bool
+    ensures { MatchBool result (ElementFormed row.now places.now) (ElementFormed row.now places.now → ⊥) }
 {
-    if row.detail > 1 {
+    if row.detail > 1 || !tag_given(row.name, places) {
         return false;
     }
-    if !tag_given(row.name, places) {
-        return false;
-    }
-    for i in 0..places.len() {
-        if !role_formed(row.detail, places, i) {
+    let mut before = None;
+    for place in places {
+        if !may_follow(before, place.role, row.detail) {
             return false;
         }
+        before = Some(place.role);
     }
     true
 }
@@ -83,54 +72,43 @@ fn element_formed(row: Instruction, places: &[Place]) -> bool
 fn tag_given(name: Option<Name>, places: &[Place]) -> bool
     ensures { MatchBool result (TagGiven name places.now) (TagGiven name places.now → ⊥) }
 {
-    if name.is_some() {
-        return true;
-    }
-    if places.len() == 0 {
-        return false;
-    }
-    places[0].role == 1
+    name.is_some()
+        || places
+            .first()
+            .is_some_and(|place| place.has_role(Role::Tag))
 }
 
 // A tag only at the start, then attributes and spreads, then children, and these only with a child list.
-fn role_formed(detail: u64, places: &[Place], i: usize) -> bool
-    requires { i < length places.now }
-    ensures { MatchBool result (RoleFormed detail places.now i) (RoleFormed detail places.now i → ⊥) }
+fn may_follow(before: Option<u8>, role: u8, detail: u64) -> bool
+    ensures { MatchBool result (MayFollow before role detail) (MayFollow before role detail → ⊥) }
 {
-    let role = places[i].role;
-    if role < 1 || role > 4 {
-        return false;
+    match Role::try_from(role) {
+        Ok(Role::Tag) => before.is_none(),
+        Ok(Role::Attribute | Role::Spread) => before != Some(Role::Child as u8),
+        Ok(Role::Child) => detail == 1,
+        _ => false,
     }
-    if role == 1 && i > 0 {
-        return false;
-    }
-    if role == 4 && detail != 1 {
-        return false;
-    }
-    if role == 4 || i == 0 {
-        return true;
-    }
-    places[i - 1].role != 4
 }
 
 // One place is read; in an object pattern each written place has a key.
 fn destructure_formed(detail: u64, places: &[Place]) -> bool
     ensures { MatchBool result (DestructureFormed detail places.now) (DestructureFormed detail places.now → ⊥) }
 {
-    if detail > 15 {
-        return false;
-    }
-    // the position of the place that is read, once it is found
-    let mut read = places.len();
-    for i in 0..places.len() {
-        if places[i].role <= 4 {
-            if read < places.len() {
-                return false;
-            }
-            read = i;
-        } else if detail >= 8 && places[i].name.is_none() {
-            return false;
-        }
-    }
-    read < places.len()
+    detail < 2 * OBJECT_PATTERN
+        && reads_one(places)
+        && (detail < OBJECT_PATTERN || each_keyed(places))
+}
+
+fn reads_one(places: &[Place]) -> bool
+    ensures { MatchBool result (ReadsOne places.now) (ReadsOne places.now → ⊥) }
+{
+    places.iter().filter(|place| place.is_read()).count() == 1
+}
+
+fn each_keyed(places: &[Place]) -> bool
+    ensures { MatchBool result (AllByRecursion Keyed places.now) (AllByRecursion Keyed places.now → ⊥) }
+{
+    places
+        .iter()
+        .all(|place| place.is_read() || place.name.is_some())
 }

@@ -3,6 +3,7 @@
 
 mod blocks;
 mod counts;
+mod form;
 mod instructions;
 mod places;
 mod rows;

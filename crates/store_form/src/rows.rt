@@ -4,9 +4,8 @@ ghost use Rattle.hir.specs.View.{rows};
 ghost use Rattle.hir.specs.WellFormed.{Counted};
 ghost use Rattle.refusals.specs.Form.{RowsFormed};
 
-use super::blocks::{blocks_formed, functions_formed};
 use super::counts::tags_low;
-use super::instructions::instructions_formed;
+use super::form::Used;
 use super::places::{identifiers_formed, places_formed};
 use hir::Store;
 
@@ -16,29 +15,12 @@ pub fn rows_formed(store: &Store<'_>) -> bool
     ensures { MatchBool result (RowsFormed store.now.counts (rows (tables store.now))) (RowsFormed store.now.counts (rows (tables store.now)) → ⊥) }
 {
     let counts = store.counts;
-    let places = &store.places[0..counts.places as usize];
-    if !tags_low(counts) {
-        return false;
-    }
-    if !identifiers_formed(&store.identifiers[0..counts.identifiers as usize], counts) {
-        return false;
-    }
-    if !places_formed(places, counts) {
-        return false;
-    }
-    if !instructions_formed(
-        &store.instructions[0..counts.instructions as usize],
-        places,
-        counts,
-    ) {
-        return false;
-    }
-    if !blocks_formed(&store.blocks[0..counts.blocks as usize], places, counts) {
-        return false;
-    }
-    functions_formed(
-        &store.functions[0..counts.functions as usize],
-        places,
-        counts,
-    )
+    let places = &store.places[..counts.places as usize];
+    let used = Used { counts, places };
+    tags_low(counts)
+        && identifiers_formed(&store.identifiers[..counts.identifiers as usize], counts)
+        && places_formed(places, counts)
+        && used.instructions_formed(&store.instructions[..counts.instructions as usize])
+        && used.blocks_formed(&store.blocks[..counts.blocks as usize])
+        && used.functions_formed(&store.functions[..counts.functions as usize])
 }

@@ -1,49 +1,38 @@
-use Rattle.std.proofs.Common.{length}
-use native.Mathlib.Nat.{sub-zero}
+use Rattle.std.proofs.Common.{length, sym, ◌∙◌}
+use Rattle.std.proofs.lemmas.Bool.{true≢false}
 use Rattle.hir.specs.Tables.{tables}
-use Rattle.hir.specs.View.{rows}
+use Rattle.hir.specs.View.{rows, null_function}
 use Rattle.refusals.proofs.Tests.{when_like}
-use Rattle.listed_once.proofs.Apart.{together, then_lists, then_named, then_once, lists_fit, preds_fit, blocks_fit, all_numbers, named_below}
+use Rattle.listed_once.proofs.Apart.{together, then_lists, then_named, then_once, lists_fit, all_numbers}
 use Rattle.listed_once.proofs.rows_apart.Goals as goal
+use Rattle.listed_once.proofs.rows_apart.Goals.{then-lists_apart, else-lists_apart, then-functions_apart, else-functions_apart}
 
-pub lists_apart-requires : goal.lists_apart-requires
-lists_apart-requires c =
+pub returns-then-lists_named : goal.returns-then-lists_named
+returns-then-lists_named c =
     let t = tables c.args.store.now in
-    let m = length c.args.numbers.now in
-    simp sub-zero (record { lists = lists_fit t m c.requires.formed c.requires.numbers.0; preds = preds_fit t m c.requires.formed c.requires.numbers.0; clear = c.requires.numbers.1 })
+    elim c.if-functions_apart.branch [
+      | then-functions_apart w ↦ elim c.if-lists_apart.branch [
+        | then-lists_apart v ↦ when_like c.rows_once.result
+            (λ h. together t.counts (rows t) (record {
+              lists = v.if-lists_apart.ensures;
+              functions = rw (sym v.value-is ∙ w.if-functions_apart.true) at v.functions_apart.ensures;
+              named = rw (sym w.value-is ∙ c.if-lists_named.true) at w.lists_named.ensures;
+              once = h;
+            }))
+            (λ h. then_once t.counts (rows t) (lists_fit t (length (rows t).numbers) c.requires.formed (all_numbers t c.requires.counted)) h)
+            c.rows_once.ensures
+        | else-lists_apart v ↦ absurd (true≢false (sym w.if-functions_apart.true ∙ v.value-is ∙ v.if-lists_apart.false))
+      ]
+      | else-functions_apart w ↦ absurd (true≢false (sym c.if-lists_named.true ∙ w.value-is ∙ w.if-functions_apart.false))
+    ]
 
-pub functions_apart-requires : goal.functions_apart-requires
-functions_apart-requires c =
+pub returns-else-lists_named : goal.returns-else-lists_named
+returns-else-lists_named c = rw c.if-lists_named.false (λ h.
     let t = tables c.args.store.now in
-    simp sub-zero (record { fit = blocks_fit t (length c.args.blocks.now) c.requires.formed c.requires.blocks.0; clear = c.requires.blocks.1 })
-
-pub lists_named-requires : goal.lists_named-requires
-lists_named-requires c =
-    let t = tables c.args.store.now in
-    let m = length (rows t).numbers in
-    simp sub-zero (record { lists = lists_fit t m c.requires.formed (all_numbers t c.requires.counted); preds = preds_fit t m c.requires.formed (all_numbers t c.requires.counted) })
-
-pub rows_once-requires : goal.rows_once-requires
-rows_once-requires c =
-    let t = tables c.args.store.now in
-    let f = lists_fit t (length (rows t).numbers) c.requires.formed (all_numbers t c.requires.counted) in
-    simp sub-zero (record { fit = f; below = named_below (rows t).blocks (rows t).numbers t.counts.instructions t.counts.blocks (length c.args.rows.now) f (simp sub-zero at c.if-not-lists_named.ensures) c.requires.rows.0; clear = c.requires.rows.1 })
-
-pub returns-then-not-lists_apart : goal.returns-then-not-lists_apart
-returns-then-not-lists_apart c = let t = tables c.args.store.now in λ h. (simp sub-zero at c.if-not-lists_apart.ensures) (then_lists t.counts (rows t) h)
-
-pub returns-then-not-lists_named : goal.returns-then-not-lists_named
-returns-then-not-lists_named c = let t = tables c.args.store.now in λ h. (simp sub-zero at c.if-not-lists_named.ensures) (then_named t.counts (rows t) h)
-
-pub returns : goal.returns
-returns c =
-    let t = tables c.args.store.now in
-    when_like c.rows_once.result
-    (λ h. together t.counts (rows t) (record {
-      lists = simp sub-zero at c.if-not-lists_apart.ensures;
-      functions = simp sub-zero at c.if-not-functions_apart.ensures;
-      named = simp sub-zero at c.if-not-lists_named.ensures;
-      once = h;
-    }))
-    (λ h. then_once t.counts (rows t) (lists_fit t (length (rows t).numbers) c.requires.formed (all_numbers t c.requires.counted)) h)
-    (simp sub-zero at c.rows_once.ensures)
+    elim c.if-functions_apart.branch [
+      | then-functions_apart w ↦ (rw (sym w.value-is ∙ c.if-lists_named.false) at w.lists_named.ensures) (then_named t.counts (rows t) h)
+      | else-functions_apart w ↦ elim c.if-lists_apart.branch [
+        | then-lists_apart v ↦ (rw (sym v.value-is ∙ w.if-functions_apart.false) at v.functions_apart.ensures) (λ a b. h.functions a b null_function)
+        | else-lists_apart v ↦ v.if-lists_apart.ensures (then_lists t.counts (rows t) h)
+      ]
+    ])

@@ -1,34 +1,21 @@
-use Rattle.std.proofs.Common.{◌+◌, length, get_or, sym, subst, arith}
+use Rattle.std.proofs.Common.{◌≡◌, ℕ, ◌+◌, length, subst, rules, arith}
 use Rattle.hir.specs.declared.rows.Run.{Run}
-use Rattle.hir.specs.View.{null_block}
-use Rattle.listed_once.specs.Marking.{Unmarked, list_or_preds}
-use Rattle.listed_once.proofs.Marks.{one_more, one_more_as, refused, marked_like, as_list, as_preds}
+use Rattle.listed_once.specs.Marking.{Marked, list_or_preds}
+use Rattle.listed_once.proofs.Marks.{list_at, preds_at, at_first, all_clear}
 use Rattle.listed_once.proofs.runs.lists_apart.Goals as goal
 
-pub returns-then-not-mark_run : goal.returns-then-not-mark_run
-returns-then-not-mark_run c =
+pub returns-then-mark_runs : goal.returns-then-mark_runs
+returns-then-mark_runs c =
     let bs = c.args.blocks.now in
-    let i = c.loop-i.i in
-    let ms = c.loop-i.marks in
-    refused (list_or_preds bs) i (length bs + length bs) ms
-    (marked_like (λ b. (get_or bs b null_block).instructions) (list_or_preds bs) i ms (λ a h. as_list bs a (omega arith)) c.loop-i.invariant)
-    (λ u. c.if-not-mark_run.ensures (subst (λ (r : Run). Unmarked r ms) (sym (as_list bs i (omega arith))) u))
-    (omega arith)
+    let n = length bs in
+    let run : ℕ → Run = list_or_preds bs in
+    let lists = c.if-mark_runs.ensures run 0 (λ i d r l h. list_at bs i d r l (search rules)) (at_first run c.args.marks.now c.requires.clear) in
+    let z : 0 + n ≡ n = omega arith in
+    let preds = c.mark_runs-then-mark_runs.ensures run n (λ i d r l h. preds_at bs i d r l (search rules)) (subst (λ k. Marked run k c.mark_runs.new.marks) z lists) in
+    all_clear c.mark_runs-then-mark_runs.result run (n + n) (n + n) c.mark_runs-then-mark_runs.new.marks (λ _. n + n) preds
 
-pub loop-i-preserved : goal.loop-i-preserved
-loop-i-preserved c = one_more (λ b. (get_or c.args.blocks.now b null_block).instructions) c.loop-i.i c.loop-i.marks _ c.loop-i.invariant c.if-not-mark_run.ensures
-
-pub returns-then-not-mark_run-2 : goal.returns-then-not-mark_run-2
-returns-then-not-mark_run-2 c =
+pub returns-else-mark_runs : goal.returns-else-mark_runs
+returns-else-mark_runs c =
     let bs = c.args.blocks.now in
-    let j = c.loop-j.j in
-    let ms = c.loop-j.marks in
-    refused (list_or_preds bs) (length bs + j) (length bs + length bs) ms c.loop-j.invariant
-    (λ u. c.if-not-mark_run-2.ensures (subst (λ (r : Run). Unmarked r ms) (sym (as_preds bs j)) u))
-    (omega arith)
-
-pub loop-j-preserved : goal.loop-j-preserved
-loop-j-preserved c =
-    let bs = c.args.blocks.now in
-    let j = c.loop-j.j in
-    one_more_as (list_or_preds bs) (length bs + j) (length bs + (j + 1)) (get_or bs j null_block).preds c.loop-j.marks _ (as_preds bs j) (omega arith) c.loop-j.invariant c.if-not-mark_run-2.ensures
+    let run : ℕ → Run = list_or_preds bs in
+    rw c.if-mark_runs.false (c.if-mark_runs.ensures run 0 (λ i d r l h. list_at bs i d r l (search rules)) (at_first run c.args.marks.now c.requires.clear) (length bs + length bs) (omega arith))
