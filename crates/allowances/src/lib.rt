@@ -1,33 +1,23 @@
 //! Refusal 9: how much an outline may take of each table, counted on the functions that it walks.
 #![tactic(auto)]
 
-ghost use Rattle.std.specs.Prelude.{◌≡◌, ◌<◌, MatchBool, MatchOption};
+ghost use Rattle.std.specs.Prelude.{◌≡◌, ◌^◌, ◌<◌, ◌≤◌, MatchBool, MatchOption};
 ghost use Rattle.rules.specs.Drawn.{inner};
 ghost use Rattle.laws.specs.Allowances.{block_counts, function_counts, halved, plus, row_counts, rows_counts, walk_counts};
+ghost use Rattle.laws.specs.Tallies.{counts_of, Tallied};
 ghost use Rattle.hir.specs.Tables.{tables};
 ghost use Rattle.hir.specs.View.{instruction_at, rows, view};
 ghost use Rattle.reading.specs.Stored.{function_seen, rows_in};
 ghost use Rattle.refusals.specs.Conditions.{Spare};
 ghost use Rattle.allowances.specs.Places.{one_element, place_counts, places_counts};
 ghost use Rattle.allowances.specs.Rooms.{Allowable, Allowed, HasRoom};
-ghost use Rattle.allowances.specs.Tallies.{counts_of, Tallied, walks_counts};
+ghost use Rattle.allowances.specs.Tallies.{walks_counts};
 
 use hir::{LIMITS, Place, Store};
 use kinds::{FunctionType, Role, ValueKind};
+use laws::allowances::{Tally, listed_of, pairs_of};
 use reading::{RowList, StoredFunction};
 use store_form::has_room;
-
-// What is counted outside Components: attributes, children, elements, the elements of each block halved, the rows of new lists, and the
-// bytes of attribute names.
-#[derive(Clone, Copy, Default)]
-pub struct Tally {
-    pub attributes: u64,
-    pub children: u64,
-    pub elements: u64,
-    pub pairs: u64,
-    pub listed: u64,
-    pub letters: u64,
-}
 
 // The most that an outline takes of each table.
 #[derive(Clone, Copy)]
@@ -39,52 +29,6 @@ pub struct Allowances {
     pub blocks: u64,
     pub functions: u64,
     pub text: u64,
-}
-
-impl Tally {
-    // Both together, unless some number passes 64 bits.
-    fn checked_add(self, other: Tally) -> Option<Tally>
-        ensures { Tallied result (plus (counts_of self) (counts_of other)) }
-    {
-        Some(Tally {
-            attributes: self.attributes.checked_add(other.attributes)?,
-            children: self.children.checked_add(other.children)?,
-            elements: self.elements.checked_add(other.elements)?,
-            pairs: self.pairs.checked_add(other.pairs)?,
-            listed: self.listed.checked_add(other.listed)?,
-            letters: self.letters.checked_add(other.letters)?,
-        })
-    }
-
-    // What it allows of each table. None only where an allowance passes 64 bits.
-    pub fn allowances(self) -> Option<Allowances>
-        ensures { MatchOption result (Allowable (counts_of self) → ⊥) (λ a. Allowed (counts_of self) a) }
-    {
-        let entries = self.attributes.checked_add(self.children)?;
-        Some(Allowances {
-            identifiers: entries.checked_add(self.pairs.checked_mul(4)?)?,
-            instructions: self
-                .pairs
-                .checked_mul(3)?
-                .checked_add(self.elements.checked_mul(2)?)?,
-            numbers: self
-                .pairs
-                .checked_add(self.elements.checked_mul(2)?)?
-                .checked_add(self.listed)?,
-            places: self
-                .pairs
-                .checked_mul(4)?
-                .checked_add(self.elements)?
-                .checked_add(entries.checked_mul(3)?)?,
-            blocks: self.pairs,
-            functions: self.pairs,
-            text: self
-                .letters
-                .checked_add(self.attributes.checked_mul(10)?)?
-                .checked_add(self.children.checked_mul(23)?)?
-                .checked_add(self.pairs.checked_mul(39)?)?,
-        })
-    }
 }
 
 impl Allowances {
@@ -133,11 +77,33 @@ impl Allowances {
     }
 }
 
+// In 64 bits, if it fits them.
+fn in_64_bits(allowance: u128) -> Option<u64>
+    ensures { MatchOption result (2 ^ 64 ≤ allowance) (λ n. n ≡ allowance) }
+{
+    u64::try_from(allowance).ok()
+}
+
+// What a tally allows of each table. None only where an allowance passes 64 bits.
+pub fn allowances_of(tally: Tally) -> Option<Allowances>
+    ensures { MatchOption result (Allowable (counts_of tally) → ⊥) (λ a. Allowed (counts_of tally) a) }
+{
+    Some(Allowances {
+        identifiers: in_64_bits(tally.identifiers_allowance())?,
+        instructions: in_64_bits(tally.instructions_allowance())?,
+        numbers: in_64_bits(tally.numbers_allowance())?,
+        places: in_64_bits(tally.places_allowance())?,
+        blocks: tally.pairs,
+        functions: tally.pairs,
+        text: in_64_bits(tally.text_allowance())?,
+    })
+}
+
 // There are as many spare rows as the walk from a function may take.
 pub fn enough_spare(function: StoredFunction<'_, '_>, depth: u32) -> bool
     ensures { MatchBool result (Spare (tables function.entry.store.now) (walk_counts depth (view (tables function.entry.store.now)) function.entry.id.0)) (Spare (tables function.entry.store.now) (walk_counts depth (view (tables function.entry.store.now)) function.entry.id.0) → ⊥) }
 {
-    let Some(allowed) = walk_tally(function, depth).and_then(Tally::allowances) else {
+    let Some(allowed) = walk_tally(function, depth).and_then(allowances_of) else {
         return false;
     };
     allowed.fit(function.store)
@@ -203,15 +169,9 @@ fn block_tally(list: RowList<'_, '_>) -> Option<Tally>
 fn halved(elements: u64, rows: u64) -> Option<Tally>
     ensures { Tallied result (halved elements rows) }
 {
-    let pairs = elements / 2;
-    let listed = if elements < 2 {
-        0
-    } else {
-        rows.checked_add(pairs)?
-    };
     Some(Tally {
-        pairs,
-        listed,
+        pairs: pairs_of(elements),
+        listed: in_64_bits(listed_of(elements, rows))?,
         ..Tally::default()
     })
 }

@@ -7,3 +7,4 @@ pub mod Sufficing
 pub mod Sharing
 pub mod Ceilings
 pub mod Worked
+pub mod Tallies

@@ -1,9 +1,8 @@
 // How much an outline may take of each table, by what was counted on the functions that it walks.
-ghost use Rattle.std.specs.Prelude.{◌≡◌, ◌^◌, ◌<◌, ◌≤◌};
-ghost use Rattle.laws.specs.Allowances.{pairs_of, listed_of, identifiers_allowance, instructions_allowance, numbers_allowance, places_allowance, blocks_allowance, functions_allowance, text_allowance, identifiers_allowed};
-ghost use Rattle.laws.specs.Sufficing.{IdentifiersSuffice, InstructionsSuffice, NumbersSuffice, PlacesSuffice, BlocksSuffice, FunctionsSuffice};
+ghost use Rattle.std.specs.Prelude.{◌≡◌, ◌≤◌};
+ghost use Rattle.laws.specs.Allowances.{pairs_of, listed_of, blocks_allowance, functions_allowance, identifiers_allowed};
+ghost use Rattle.laws.specs.Sufficing.{BlocksSuffice, FunctionsSuffice};
 ghost use Rattle.laws.specs.Sharing.{blocks_left, EveryStepWithinItsShare};
-ghost use Rattle.laws.specs.Ceilings.{TextSuffices};
 ghost use Rattle.laws.specs.Worked.{tile_counts, WorkedAllowances};
 
 // The most groups of two or more that a block's elements make.
@@ -26,7 +25,7 @@ pub fn listed_of(elements: u64, rows: u64) -> u128
 
 // What was counted on the functions that an outline walks: the attributes, children and elements, the elements of each block halved, the
 // rows of new lists, and the bytes of attribute names. An allowance may need more bits than a count.
-#[derive(Clone, Copy)]
+#[derive(Clone, Copy, Default)]
 pub struct Tally {
     pub attributes: u64,
     pub children: u64,
@@ -37,6 +36,26 @@ pub struct Tally {
 }
 
 impl Tally {
+    ghost use Rattle.std.specs.Prelude.{◌≡◌};
+    ghost use Rattle.laws.specs.Allowances.{identifiers_allowance, instructions_allowance, numbers_allowance, places_allowance, plus, text_allowance};
+    ghost use Rattle.laws.specs.Ceilings.{TextSuffices};
+    ghost use Rattle.laws.specs.Sufficing.{IdentifiersSuffice, InstructionsSuffice, NumbersSuffice, PlacesSuffice};
+    ghost use Rattle.laws.specs.Tallies.{counts_of, Tallied};
+
+    // Both together, unless some number passes 64 bits.
+    pub fn checked_add(self, other: Tally) -> Option<Tally>
+        ensures { Tallied result (plus (counts_of self) (counts_of other)) }
+    {
+        Some(Tally {
+            attributes: self.attributes.checked_add(other.attributes)?,
+            children: self.children.checked_add(other.children)?,
+            elements: self.elements.checked_add(other.elements)?,
+            pairs: self.pairs.checked_add(other.pairs)?,
+            listed: self.listed.checked_add(other.listed)?,
+            letters: self.letters.checked_add(other.letters)?,
+        })
+    }
+
     // Each entry takes an identifier, and each group four more.
     pub fn identifiers_allowance(&self) -> u128
         ensures allowed { result ≡ identifiers_allowance self.now.attributes self.now.children self.now.pairs }

@@ -1,7 +1,7 @@
 use Rattle.std.proofs.Common.{◌-◌, sym, refl, ap, ◌∙◌, subst, arith}
 use Rattle.hir.specs.Tables.{tables}
 use Rattle.hir.specs.View.{rows, view}
-use Rattle.allowances.specs.Tallies.{counts_of}
+use Rattle.laws.specs.Tallies.{counts_of}
 use Rattle.allowances.proofs.Sums.{Summing, one_more, sum_given_up, one_given_up, left_as}
 use Rattle.allowances.proofs.Walks.{blocks_of, next_inner, no_inner, next_walks, first_given_up, list_walks}
 use Rattle.allowances.proofs.+walk_tally.Goals as goal

@@ -2,7 +2,7 @@ use Rattle.std.proofs.Common.{sym, ◌∙◌, subst}
 use Rattle.laws.specs.Allowances.{Counts}
 use Rattle.hir.specs.Tables.{tables}
 use Rattle.hir.specs.View.{instruction_at, rows}
-use Rattle.allowances.specs.Tallies.{Tallied}
+use Rattle.laws.specs.Tallies.{Tallied}
 use Rattle.allowances.proofs.Elements.{element_counted}
 use Rattle.allowances.proofs.row_tally.Goals as goal
 

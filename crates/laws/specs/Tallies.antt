@@ -1,0 +1,21 @@
+-- A tally as counts, and what an answer of a tally says.
+use Rattle.std.specs.Prelude.{◌≡◌, ◌^◌, ◌<◌, Option, MatchOption}
+use Rattle.laws.specs.Allowances.{Counts}
+use Rattle.laws.specs.declared.allowances.Tally.{Tally}
+
+-- the numbers of a tally
+abbrev pub counts_of : Tally → Counts
+counts_of t = record { attributes = t.attributes; children = t.children; elements = t.elements; pairs = t.pairs; listed = t.listed; letters = t.letters }
+
+-- Each number fits 64 bits.
+pub record Countable (c : Counts) : Type 0 where
+  pub attributes : c.attributes < 2 ^ 64
+  pub children : c.children < 2 ^ 64
+  pub elements : c.elements < 2 ^ 64
+  pub pairs : c.pairs < 2 ^ 64
+  pub listed : c.listed < 2 ^ 64
+  pub letters : c.letters < 2 ^ 64
+
+-- the answer has these counts; there is none only where one of them does not fit
+abbrev pub Tallied : Option Tally → Counts → Type 0
+Tallied r c = MatchOption r (Countable c → ⊥) (λ (t : Tally). counts_of t ≡ c)
