@@ -1,7 +1,7 @@
 -- Counts summed one after another.
 use Rattle.std.proofs.Common.{◌≡◌, ℕ, None, Option, refl, sym, ap, ◌∙◌, subst, arith}
 use Rattle.laws.specs.Allowances.{Counts, no_counts, plus}
-use Rattle.allowances.specs.declared.Tally.{Tally}
+use Rattle.laws.specs.declared.allowances.Tally.{Tally}
 use Rattle.allowances.specs.Tallies.{counts_of, Countable, Tallied}
 
 same : (a b c d e f a' b' c' d' e' f' : ℕ) → a ≡ a' → b ≡ b' → c ≡ c' → d ≡ d' → e ≡ e' → f ≡ f'

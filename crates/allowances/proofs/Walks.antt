@@ -15,7 +15,7 @@ use Rattle.hir.specs.View.{Rows, instruction_at, instruction_view, instructions_
 use Rattle.reading.specs.declared.stored.StoredFunction.{StoredFunction}
 use Rattle.reading.specs.declared.stored.RowList.{RowList}
 use Rattle.reading.specs.Stored.{function_seen, rows_in}
-use Rattle.allowances.specs.declared.Tally.{Tally}
+use Rattle.laws.specs.declared.allowances.Tally.{Tally}
 use Rattle.refusals.proofs.Blocks.{block_first}
 use Rattle.allowances.specs.Tallies.{Countable, Tallied, walks_counts}
 use Rattle.allowances.proofs.Sums.{Next, plus_assoc, plus_comm, none_plus}

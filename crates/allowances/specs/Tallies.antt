@@ -4,7 +4,7 @@ use Rattle.rules.specs.Lists.{gathered}
 use Rattle.rules.specs.Views.{Hir, function_at}
 use Rattle.rules.specs.Drawn.{on_walk}
 use Rattle.laws.specs.Allowances.{Counts, function_counts, tally}
-use Rattle.allowances.specs.declared.Tally.{Tally}
+use Rattle.laws.specs.declared.allowances.Tally.{Tally}
 
 -- the numbers of a tally
 abbrev pub counts_of : Tally → Counts

@@ -1,7 +1,7 @@
 //! Refusal 9: how much an outline may take of each table, counted on the functions that it walks.
 #![tactic(auto)]
 
-ghost use Rattle.std.specs.Prelude.{◌≡◌, ◌<◌, MatchBool, MatchOption};
+ghost use Rattle.std.specs.Prelude.{◌≡◌, ◌^◌, ◌<◌, MatchBool, MatchOption};
 ghost use Rattle.rules.specs.Drawn.{inner};
 ghost use Rattle.laws.specs.Allowances.{block_counts, function_counts, halved, plus, row_counts, rows_counts, walk_counts};
 ghost use Rattle.hir.specs.Tables.{tables};
@@ -14,20 +14,10 @@ ghost use Rattle.allowances.specs.Tallies.{counts_of, Tallied, walks_counts};
 
 use hir::{LIMITS, Place, Store};
 use kinds::{FunctionType, Role, ValueKind};
+pub use laws::allowances::Tally;
+use laws::allowances::{listed_of, pairs_of};
 use reading::{RowList, StoredFunction};
 use store_form::has_room;
-
-// What is counted outside Components: attributes, children, elements, the elements of each block halved, the rows of new lists, and the
-// bytes of attribute names.
-#[derive(Clone, Copy, Default)]
-pub struct Tally {
-    pub attributes: u64,
-    pub children: u64,
-    pub elements: u64,
-    pub pairs: u64,
-    pub listed: u64,
-    pub letters: u64,
-}
 
 // The most that an outline takes of each table.
 #[derive(Clone, Copy)]
@@ -41,50 +31,49 @@ pub struct Allowances {
     pub text: u64,
 }
 
-impl Tally {
-    // Both together, unless some number passes 64 bits.
-    fn checked_add(self, other: Tally) -> Option<Tally>
-        ensures { Tallied result (plus (counts_of self) (counts_of other)) }
-    {
-        Some(Tally {
-            attributes: self.attributes.checked_add(other.attributes)?,
-            children: self.children.checked_add(other.children)?,
-            elements: self.elements.checked_add(other.elements)?,
-            pairs: self.pairs.checked_add(other.pairs)?,
-            listed: self.listed.checked_add(other.listed)?,
-            letters: self.letters.checked_add(other.letters)?,
-        })
-    }
+// The struct of the laws has no default.
+const NOTHING: Tally = Tally {
+    attributes: 0,
+    children: 0,
+    elements: 0,
+    pairs: 0,
+    listed: 0,
+    letters: 0,
+};
 
-    // What it allows of each table. None only where an allowance passes 64 bits.
-    pub fn allowances(self) -> Option<Allowances>
-        ensures { MatchOption result (Allowable (counts_of self) → ⊥) (λ a. Allowed (counts_of self) a) }
-    {
-        let entries = self.attributes.checked_add(self.children)?;
-        Some(Allowances {
-            identifiers: entries.checked_add(self.pairs.checked_mul(4)?)?,
-            instructions: self
-                .pairs
-                .checked_mul(3)?
-                .checked_add(self.elements.checked_mul(2)?)?,
-            numbers: self
-                .pairs
-                .checked_add(self.elements.checked_mul(2)?)?
-                .checked_add(self.listed)?,
-            places: self
-                .pairs
-                .checked_mul(4)?
-                .checked_add(self.elements)?
-                .checked_add(entries.checked_mul(3)?)?,
-            blocks: self.pairs,
-            functions: self.pairs,
-            text: self
-                .letters
-                .checked_add(self.attributes.checked_mul(10)?)?
-                .checked_add(self.children.checked_mul(23)?)?
-                .checked_add(self.pairs.checked_mul(39)?)?,
-        })
-    }
+// Both together, unless some number passes 64 bits.
+fn plus(a: Tally, b: Tally) -> Option<Tally>
+    ensures { Tallied result (plus (counts_of a) (counts_of b)) }
+{
+    Some(Tally {
+        attributes: a.attributes.checked_add(b.attributes)?,
+        children: a.children.checked_add(b.children)?,
+        elements: a.elements.checked_add(b.elements)?,
+        pairs: a.pairs.checked_add(b.pairs)?,
+        listed: a.listed.checked_add(b.listed)?,
+        letters: a.letters.checked_add(b.letters)?,
+    })
+}
+
+fn in_64_bits(number: u128) -> Option<u64>
+    ensures { MatchOption result (number < 2 ^ 64 → ⊥) (λ n. n ≡ number) }
+{
+    u64::try_from(number).ok()
+}
+
+// What a tally allows of each table. None only where an allowance passes 64 bits.
+pub fn allowances_of(tally: Tally) -> Option<Allowances>
+    ensures { MatchOption result (Allowable (counts_of tally) → ⊥) (λ a. Allowed (counts_of tally) a) }
+{
+    Some(Allowances {
+        identifiers: in_64_bits(tally.identifiers_allowance())?,
+        instructions: in_64_bits(tally.instructions_allowance())?,
+        numbers: in_64_bits(tally.numbers_allowance())?,
+        places: in_64_bits(tally.places_allowance())?,
+        blocks: tally.pairs,
+        functions: tally.pairs,
+        text: in_64_bits(tally.text_allowance())?,
+    })
 }
 
 impl Allowances {
@@ -137,7 +126,7 @@ impl Allowances {
 pub fn enough_spare(function: StoredFunction<'_, '_>, depth: u32) -> bool
     ensures { MatchBool result (Spare (tables function.entry.store.now) (walk_counts depth (view (tables function.entry.store.now)) function.entry.id.0)) (Spare (tables function.entry.store.now) (walk_counts depth (view (tables function.entry.store.now)) function.entry.id.0) → ⊥) }
 {
-    let Some(allowed) = walk_tally(function, depth).and_then(Tally::allowances) else {
+    let Some(allowed) = walk_tally(function, depth).and_then(allowances_of) else {
         return false;
     };
     allowed.fit(function.store)
@@ -149,11 +138,11 @@ pub fn walk_tally(function: StoredFunction<'_, '_>, depth: u32) -> Option<Tally>
     ensures { Tallied result (walk_counts depth (view (tables function.entry.store.now)) function.entry.id.0) }
 {
     if depth == 0 {
-        return Some(Tally::default());
+        return Some(NOTHING);
     }
     let mut sum = function_tally(function)?;
     for k in 0..function.row().blocks.count {
-        sum = sum.checked_add(inner_tally(function.list(k), depth - 1)?)?;
+        sum = plus(sum, inner_tally(function.list(k), depth - 1)?)?;
     }
     Some(sum)
 }
@@ -163,7 +152,7 @@ pub fn walk_tally(function: StoredFunction<'_, '_>, depth: u32) -> Option<Tally>
 fn inner_tally(list: RowList<'_, '_>, depth: u32) -> Option<Tally>
     ensures { Tallied result (walks_counts depth (view (tables list.entry.store.now)) (inner (rows_in list.entry))) }
 {
-    let mut sum = Tally::default();
+    let mut sum = NOTHING;
     for number in list.numbers {
         let row = list.row(*number);
         if row.has_kind(ValueKind::FunctionExpression) {
@@ -171,7 +160,7 @@ fn inner_tally(list: RowList<'_, '_>, depth: u32) -> Option<Tally>
                 store: list.store,
                 id: row.function,
             };
-            sum = sum.checked_add(walk_tally(inner, depth)?)?;
+            sum = plus(sum, walk_tally(inner, depth)?)?;
         }
     }
     Some(sum)
@@ -182,12 +171,12 @@ fn function_tally(function: StoredFunction<'_, '_>) -> Option<Tally>
     ensures { Tallied result (function_counts (function_seen function.entry)) }
 {
     let row = function.row();
-    let mut sum = Tally::default();
+    let mut sum = NOTHING;
     if row.has_type(FunctionType::Component) {
         return Some(sum);
     }
     for k in 0..row.blocks.count {
-        sum = sum.checked_add(block_tally(function.list(k))?)?;
+        sum = plus(sum, block_tally(function.list(k))?)?;
     }
     Some(sum)
 }
@@ -196,32 +185,26 @@ fn block_tally(list: RowList<'_, '_>) -> Option<Tally>
     ensures { Tallied result (block_counts (rows_in list.entry)) }
 {
     let sum = rows_tally(list)?;
-    sum.checked_add(halved(sum.elements, list.numbers.len() as u64)?)
+    plus(sum, halved(sum.elements, list.numbers.len() as u64)?)
 }
 
 // The groups that there can be among so many elements, and the new list's rows.
 fn halved(elements: u64, rows: u64) -> Option<Tally>
     ensures { Tallied result (halved elements rows) }
 {
-    let pairs = elements / 2;
-    let listed = if elements < 2 {
-        0
-    } else {
-        rows.checked_add(pairs)?
-    };
     Some(Tally {
-        pairs,
-        listed,
-        ..Tally::default()
+        pairs: pairs_of(elements),
+        listed: in_64_bits(listed_of(elements, rows))?,
+        ..NOTHING
     })
 }
 
 fn rows_tally(list: RowList<'_, '_>) -> Option<Tally>
     ensures { Tallied result (rows_counts (rows_in list.entry)) }
 {
-    let mut sum = Tally::default();
+    let mut sum = NOTHING;
     for number in list.numbers {
-        sum = sum.checked_add(row_tally(list, *number)?)?;
+        sum = plus(sum, row_tally(list, *number)?)?;
     }
     Some(sum)
 }
@@ -231,7 +214,7 @@ fn row_tally(list: RowList<'_, '_>, number: u32) -> Option<Tally>
     ensures { Tallied result (row_counts (instruction_at (rows (tables list.entry.store.now)) number)) }
 {
     if !list.row(number).has_kind(ValueKind::JsxExpression) {
-        return Some(Tally::default());
+        return Some(NOTHING);
     }
     element_tally(list.places(number))
 }
@@ -242,10 +225,10 @@ fn element_tally(places: &[Place]) -> Option<Tally>
 {
     let mut sum = Tally {
         elements: 1,
-        ..Tally::default()
+        ..NOTHING
     };
     for place in places {
-        sum = sum.checked_add(place_tally(place))?;
+        sum = plus(sum, place_tally(place))?;
     }
     Some(sum)
 }
@@ -258,12 +241,12 @@ fn place_tally(place: &Place) -> Tally
         Ok(Role::Attribute) => Tally {
             attributes: 1,
             letters: place.name.map_or(0, |name| name.len as u64),
-            ..Tally::default()
+            ..NOTHING
         },
         Ok(Role::Child) => Tally {
             children: 1,
-            ..Tally::default()
+            ..NOTHING
         },
-        _ => Tally::default(),
+        _ => NOTHING,
     }
 }
