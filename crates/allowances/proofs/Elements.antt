@@ -1,7 +1,7 @@
 -- An element counts what its places count.
 use Rattle.std.proofs.Common.{◌≡◌, ℕ, false, true, eqb, List, [], ◌∷◌, map, length, Some, None, Option, refl, sym, ap, ◌∙◌, inl, inr, arith}
 use Rattle.std.specs.List.{AllByRecursion}
-use Rattle.std.proofs.lemmas.Bool.{cases_Bool, eqb-true, eq-eqb}
+use Rattle.std.proofs.lemmas.Bool.{cases_Bool, eqb-true}
 use Rattle.rules.specs.Lists.{select}
 use Rattle.rules.specs.Kinds.{jsx_kind}
 use Rattle.rules.specs.Names.{spell}
@@ -71,7 +71,7 @@ module _ (text : Bytes) (c : Used) (e : c.text ≡ length text) where
   places_seen [] a = refl
   places_seen (p ∷ ps) a = place_first p ps a.0 (places_seen ps a.1)
 
-pub element_counted : (t : Tables) → Readable t → (i : InstructionV) (x : Instruction) (ps : List Place) → i ≡ instruction_view (rows t) x → x.kind ≡ jsx_kind → map (place_view (view t).text) ps ≡ i.places → AllByRecursion (PlaceFits t.counts) ps → plus one_element (places_counts ps) ≡ row_counts i
+pub element_counted : (t : Tables) → Readable t → (i : InstructionV) (x : Instruction) (ps : List Place) → i ≡ instruction_view (rows t) x → eqb x.kind jsx_kind ≡ true → map (place_view (view t).text) ps ≡ i.places → AllByRecursion (PlaceFits t.counts) ps → plus one_element (places_counts ps) ≡ row_counts i
 element_counted t w i x ps e k s f =
     let n : t.counts.text ≡ length (view t).text = sym (ap (λ (c : Used). c.text) (sizes_are t w.counted)) in
-    sym (places_seen (view t).text t.counts n ps f) ∙ ap of_places s ∙ sym (row_yes i (ap is_element e ∙ eq-eqb x.kind jsx_kind k))
+    sym (places_seen (view t).text t.counts n ps f) ∙ ap of_places s ∙ sym (row_yes i (ap is_element e ∙ k))

@@ -1,6 +1,4 @@
 pub mod Sums
 pub mod Elements
-pub mod Nexts
-pub mod Functions
+pub mod Blocks
 pub mod Walks
-pub mod Rooms

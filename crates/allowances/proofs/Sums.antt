@@ -2,7 +2,7 @@
 use Rattle.std.proofs.Common.{◌≡◌, ℕ, None, Option, refl, sym, ap, ◌∙◌, subst, arith}
 use Rattle.laws.specs.Allowances.{Counts, no_counts, plus}
 use Rattle.allowances.specs.declared.Tally.{Tally}
-use Rattle.allowances.specs.Tallies.{Countable, Tallied}
+use Rattle.allowances.specs.Tallies.{counts_of, Countable, Tallied}
 
 same : (a b c d e f a' b' c' d' e' f' : ℕ) → a ≡ a' → b ≡ b' → c ≡ c' → d ≡ d' → e ≡ e' → f ≡ f'
     → ◌≡◌ {A = Counts} (record { attributes = a; children = b; elements = c; pairs = d; listed = e; letters = f }) (record { attributes = a'; children = b'; elements = c'; pairs = d'; listed = e'; letters = f' })
@@ -29,36 +29,39 @@ plus_assoc x y z = same_counts (plus (plus x y) z) (plus x (plus y z)) (omega ar
 pub plus_comm : (x y : Counts) → plus x y ≡ plus y x
 plus_comm x y = same_counts (plus x y) (plus y x) (omega arith)
 
-pub plus_none : (x : Counts) → plus x no_counts ≡ x
-plus_none x = same_counts (plus x no_counts) x (omega arith)
-
 pub none_plus : (x : Counts) → plus no_counts x ≡ x
 none_plus x = same_counts (plus no_counts x) x (omega arith)
 
--- what is summed so far, and what is left, as an equation of three parts: x is next
-module _ (s x left rest whole : Counts) (next : left ≡ plus x rest) (so_far : plus s left ≡ whole) where
-  parts : plus s (plus x rest) ≡ whole
-  parts = ap (plus s) (sym next) ∙ so_far
+-- Some are summed, these are left.
+pub record Summing (whole left : Counts) (sum : Tally) : Type 0 where
+  pub so_far : plus (counts_of sum) left ≡ whole
 
-  pub one_more : (t : Counts) → t ≡ plus s x → plus t rest ≡ whole
-  one_more t e = ap (λ y. plus y rest) e ∙ plus_assoc s x rest ∙ parts
+-- one of those that are left is next
+pub record Next (left x rest : Counts) : Type 0 where
+  pub parts : left ≡ plus x rest
 
-  countable_parts : Countable whole → Countable (plus s (plus x rest))
+module _ {whole left x rest : Counts} {sum : Tally} (next : Next left x rest) (s : Summing whole left sum) where
+  parts : plus (counts_of sum) (plus x rest) ≡ whole
+  parts = ap (plus (counts_of sum)) (sym next.parts) ∙ s.so_far
+
+  pub one_more : {more : Tally} → counts_of more ≡ plus (counts_of sum) x → Summing whole rest more
+  one_more e = record { so_far = ap (λ y. plus y rest) e ∙ plus_assoc (counts_of sum) x rest ∙ parts }
+
+  countable_parts : Countable whole → Countable (plus (counts_of sum) (plus x rest))
   countable_parts = subst Countable (sym parts)
 
-  pub sum_too_large : (Countable (plus s x) → ⊥) → Countable whole → ⊥
+  sum_too_large : (Countable (plus (counts_of sum) x) → ⊥) → Countable whole → ⊥
   sum_too_large u w = let c = countable_parts w in u (omega arith)
 
-  pub one_too_large : (Countable x → ⊥) → Countable whole → ⊥
+  one_too_large : (Countable x → ⊥) → Countable whole → ⊥
   one_too_large u w = let c = countable_parts w in u (omega arith)
 
-  -- the same of an answer that gives up
-  pub sum_given_up : (r : Option Tally) → r ≡ None → (Countable (plus s x) → ⊥) → Tallied r whole
-  sum_given_up r e u = subst (λ o. Tallied o whole) (sym e) (sum_too_large u)
+  -- there is no sum, or none of the next
+  pub sum_given_up : {r : Option Tally} → r ≡ None → (Countable (plus (counts_of sum) x) → ⊥) → Tallied r whole
+  sum_given_up e u = subst (λ o. Tallied o whole) (sym e) (sum_too_large u)
 
-  pub one_given_up : (r : Option Tally) → r ≡ None → (Countable x → ⊥) → Tallied r whole
-  one_given_up r e u = subst (λ o. Tallied o whole) (sym e) (one_too_large u)
+  pub one_given_up : {r : Option Tally} → r ≡ None → (Countable x → ⊥) → Tallied r whole
+  one_given_up e u = subst (λ o. Tallied o whole) (sym e) (one_too_large u)
 
--- nothing is left
-pub all_summed : (s left whole : Counts) → left ≡ no_counts → plus s left ≡ whole → s ≡ whole
-all_summed s left whole e h = sym (plus_none s) ∙ ap (plus s) (sym e) ∙ h
+pub left_as : {whole left rest : Counts} {sum : Tally} → left ≡ rest → Summing whole left sum → Summing whole rest sum
+left_as {sum = sum} e s = record { so_far = ap (plus (counts_of sum)) (sym e) ∙ s.so_far }

@@ -1,80 +1,59 @@
 //! Refusal 5: in each block phis come first, orders rise, and elements are at most 256.
 #![tactic(auto)]
 
-ghost use Rattle.std.specs.Prelude.{◌≡◌, ℕ, ◌<◌, false, length, MatchBool, ◌==◌};
-ghost use Rattle.std.specs.List.{AllByRecursion};
-ghost use Rattle.rules.specs.Kinds.{phi_kind};
+ghost use Rattle.std.specs.Prelude.{◌≡◌, ◌<◌, length, MatchBool};
 ghost use Rattle.rules.specs.Lists.{select};
-ghost use Rattle.rules.specs.Views.{function_at, is_element};
+ghost use Rattle.rules.specs.Views.{block_rows, is_element};
 ghost use Rattle.hir.specs.Tables.{tables};
-ghost use Rattle.hir.specs.View.{instructions_at, rows, view};
-ghost use Rattle.hir.specs.WellFormed.{Readable, WellFormed};
-ghost use Rattle.refusals.specs.Walked.{FunctionOrdered, Rising, RowsOrdered};
+ghost use Rattle.hir.specs.View.{instruction_at, rows};
+ghost use Rattle.reading.specs.Stored.{function_seen, rows_in};
+ghost use Rattle.refusals.specs.Walked.{ComesAfter, FunctionOrdered, Rising, RowsOrdered};
 
-use hir::{FunctionId, Instruction, Store};
-use listed_rows::listed_row;
-use reading::block_list;
+use kinds::ValueKind;
+use reading::{RowList, StoredFunction};
 
-pub fn function_ordered(store: &Store<'_>, function: FunctionId) -> bool
-    requires well { WellFormed (tables store.now) }
-    requires used { function.0 < store.now.counts.functions }
-    ensures { MatchBool result (FunctionOrdered (function_at (view (tables store.now)) function.0)) (FunctionOrdered (function_at (view (tables store.now)) function.0) → ⊥) }
+// The most elements of a block.
+const ELEMENTS_LIMIT: usize = 256;
+
+pub fn function_ordered(function: StoredFunction<'_, '_>) -> bool
+    ensures { MatchBool result (FunctionOrdered (function_seen function.entry)) (FunctionOrdered (function_seen function.entry) → ⊥) }
 {
-    let count = store.functions[function.0 as usize].blocks.count;
-    for k in 0..count {
-        if !list_ordered(store, block_list(store, function, k)) {
-            return false;
-        }
-    }
-    true
+    (0..function.row().blocks.count).all(|k| block_ordered(function, k))
 }
 
-fn list_ordered(store: &Store<'_>, list: &[u32]) -> bool
-    requires readable { Readable (tables store.now) }
-    requires listed { AllByRecursion (λ n. n < store.now.counts.instructions) list.now }
-    ensures { MatchBool result (RowsOrdered (instructions_at (rows (tables store.now)) list.now)) (RowsOrdered (instructions_at (rows (tables store.now)) list.now) → ⊥) }
+// Its k-th block.
+fn block_ordered(function: StoredFunction<'_, '_>, k: u32) -> bool
+    requires { k < length (function_seen function).blocks }
+    ensures { MatchBool result (RowsOrdered (block_rows (function_seen function.entry).blocks k)) (RowsOrdered (block_rows (function_seen function.entry).blocks k) → ⊥) }
 {
-    if !orders_rise(store, list) {
-        return false;
-    }
-    elements_in(store, list) <= 256
+    let list = function.list(k);
+    orders_rise(list) && elements_in(list) <= ELEMENTS_LIMIT
 }
 
-fn orders_rise(store: &Store<'_>, list: &[u32]) -> bool
-    requires readable { Readable (tables store.now) }
-    requires listed { AllByRecursion (λ n. n < store.now.counts.instructions) list.now }
-    ensures { MatchBool result (Rising (instructions_at (rows (tables store.now)) list.now)) (Rising (instructions_at (rows (tables store.now)) list.now) → ⊥) }
+fn orders_rise(list: RowList<'_, '_>) -> bool
+    ensures { MatchBool result (Rising (rows_in list.entry)) (Rising (rows_in list.entry) → ⊥) }
 {
-    for k in 1..list.len() {
-        let before = listed_row(store, list, k - 1);
-        let after = listed_row(store, list, k);
-        if !comes_after(before, after) {
-            return false;
-        }
-    }
-    true
+    list.numbers
+        .windows(2)
+        .all(|pair| comes_after(list, pair[0], pair[1]))
 }
 
-fn comes_after(before: Instruction, after: Instruction) -> bool
-    ensures { MatchBool result ((before.kind == phi_kind) ≡ false → ((after.kind == phi_kind) ≡ false) × (before.order < after.order)) (((before.kind == phi_kind) ≡ false → ((after.kind == phi_kind) ≡ false) × (before.order < after.order)) → ⊥) }
+fn comes_after(list: RowList<'_, '_>, before: u32, after: u32) -> bool
+    requires before { before < list.store.now.counts.instructions }
+    requires after { after < list.store.now.counts.instructions }
+    ensures { MatchBool result (ComesAfter (instruction_at (rows (tables list.entry.store.now)) before) (instruction_at (rows (tables list.entry.store.now)) after)) (ComesAfter (instruction_at (rows (tables list.entry.store.now)) before) (instruction_at (rows (tables list.entry.store.now)) after) → ⊥) }
 {
-    if before.kind == 0 {
-        return true;
-    }
-    after.kind != 0 && before.order < after.order
+    let before = list.row(before);
+    let after = list.row(after);
+    before.has_kind(ValueKind::Phi) || !after.has_kind(ValueKind::Phi) && before.order < after.order
 }
 
 // How many of the rows are elements.
-fn elements_in(store: &Store<'_>, list: &[u32]) -> usize
-    requires readable { Readable (tables store.now) }
-    requires listed { AllByRecursion (λ n. n < store.now.counts.instructions) list.now }
-    ensures { result ≡ length (select is_element (instructions_at (rows (tables store.now)) list.now)) }
+fn elements_in(list: RowList<'_, '_>) -> usize
+    ensures { result ≡ length (select is_element (rows_in list.entry)) }
 {
-    let mut elements = 0usize;
-    for k in 0..list.len() {
-        if listed_row(store, list, k).kind == 16 {
-            elements += 1;
-        }
-    }
-    elements
+    list.numbers
+        .iter()
+        .filter(|number| list.row(**number).has_kind(ValueKind::JsxExpression))
+        .count()
 }

@@ -1,137 +1,189 @@
 ghost use Rattle.std.specs.Prelude.{◌≤◌, IfOk};
 
 use super::fault::{Fault, ReadError, Wrong};
-use hir::{IdentifierId, IdentifierName, Name, Place, Run};
+use hir::{
+    BasicBlock, FunctionId, HirFunction, Identifier, IdentifierId, IdentifierName, Instruction,
+    Name, Place, Run,
+};
+use kinds::{BlockKind, Effect, FunctionType, Role, Terminal, ValueKind};
+use std::str::Split;
 
-// The fields of one line after its letter, of which `next` is the one to be read.
+// The fields of one line that are still to be read, and the text that names are added to.
 #[derive(Drop)]
-pub struct Fields<'v, 'a> {
-    pub parts: &'v [&'a str],
-    pub next: usize,
-    pub line: usize,
+pub struct Fields<'t, 'l> {
+    parts: Split<'l, char>,
+    line: usize,
+    text: &'t mut Vec<u8>,
 }
 
-impl<'v, 'a> Fields<'v, 'a> {
-    pub fn fault(&self, field: &'static str, wrong: Wrong) -> Fault {
+impl<'t, 'l> Fields<'t, 'l> {
+    pub fn new(line: usize, fields: &'l str, text: &'t mut Vec<u8>) -> Fields<'t, 'l> {
+        Fields {
+            parts: fields.split(','),
+            line,
+            text,
+        }
+    }
+
+    pub fn fault(&self, wrong: Wrong) -> Fault {
         Fault {
             line: self.line,
-            field,
             wrong,
         }
     }
 
     // What stands before the first comma.
-    pub fn letter(&self) -> &'a str {
-        match self.parts.first() {
-            Some(letter) => *letter,
-            None => "",
-        }
+    pub fn letter(&mut self) -> &'l str {
+        self.parts.next().unwrap_or("")
     }
 
-    fn take(&mut self, field: &'static str) -> Result<&'a str, Fault> {
-        match self.parts.get(self.next) {
-            Some(part) => {
-                self.next = self.next.saturating_add(1);
-                Ok(*part)
-            }
-            None => Err(self.fault(field, Wrong::Missing)),
-        }
+    fn take(&mut self, field: &'static str) -> Result<&'l str, Fault> {
+        let part = self.parts.next();
+        part.ok_or(self.fault(Wrong::Missing(field)))
     }
 
     // A number in decimal, without a sign and without a leading zero.
-    pub fn between(&mut self, field: &'static str, min: u64, max: u64) -> Result<u64, Fault>
+    fn between(&mut self, field: &'static str, min: u64, max: u64) -> Result<u64, Fault>
         ensures { IfOk result (λ n. (min ≤ n) × (n ≤ max)) }
     {
         let part = self.take(field)?;
-        let wrong = Wrong::Number { min, max };
-        if part.starts_with('+') || (part.len() > 1 && part.starts_with('0')) {
-            return Err(self.fault(field, wrong));
-        }
+        let spelt = !part.starts_with('+') && (part.len() <= 1 || !part.starts_with('0'));
         match part.parse::<u64>() {
-            Ok(n) if min <= n && n <= max => Ok(n),
-            _ => Err(self.fault(field, wrong)),
+            Ok(n) if spelt && min <= n && n <= max => Ok(n),
+            _ => Err(self.fault(Wrong::Number { field, min, max })),
         }
     }
 
-    pub fn small(&mut self, field: &'static str, max: u8) -> Result<u8, Fault>
-        ensures { IfOk result (λ n. n ≤ max) }
+    // The number of a kind, from that of the first to that of the last.
+    fn kind(&mut self, field: &'static str, first: u8, last: u8) -> Result<u8, Fault>
+        ensures { IfOk result (λ n. (first ≤ n) × (n ≤ last)) }
     {
-        let n = self.between(field, 0, max as u64)?;
-        Ok(n as u8)
+        Ok(self.between(field, first as u64, last as u64)? as u8)
     }
 
-    pub fn bit(&mut self, field: &'static str) -> Result<bool, Fault> {
-        let n = self.between(field, 0, 1)?;
-        Ok(n == 1)
+    fn bit(&mut self, field: &'static str) -> Result<bool, Fault> {
+        Ok(self.between(field, 0, 1)? == 1)
     }
 
     pub fn word(&mut self, field: &'static str) -> Result<u32, Fault> {
-        let n = self.between(field, 0, 4_294_967_295)?;
-        Ok(n as u32)
+        Ok(self.between(field, 0, u32::MAX as u64)? as u32)
     }
 
-    pub fn run(&mut self, first: &'static str, count: &'static str) -> Result<Run, Fault> {
+    fn run(&mut self, first: &'static str, count: &'static str) -> Result<Run, Fault> {
         let first = self.word(first)?;
         let count = self.word(count)?;
         Ok(Run { first, count })
     }
 
     // A name's bytes are added to the text; an empty field is no name.
-    pub fn name(
-        &mut self,
-        field: &'static str,
-        text: &mut Vec<u8>,
-    ) -> Result<Option<Name>, ReadError> {
+    fn name(&mut self, field: &'static str) -> Result<Option<Name>, ReadError> {
         let part = self.take(field)?;
         if part.is_empty() {
             return Ok(None);
         }
-        let (Ok(start), Ok(len)) = (u32::try_from(text.len()), u32::try_from(part.len())) else {
-            return Err(ReadError::Line(self.fault(field, Wrong::TooMuchText)));
+        let (Ok(start), Ok(len)) = (u32::try_from(self.text.len()), u32::try_from(part.len()))
+        else {
+            return Err(self.fault(Wrong::TooMuchText).into());
         };
-        text.extend_from_slice(part.as_bytes())?;
+        self.text.extend_from_slice(part.as_bytes())?;
         Ok(Some(Name { start, len }))
     }
 
     // 0 and no name, or 1 for Named or 2 for Promoted and the name.
-    pub fn identifier_name(
-        &mut self,
-        text: &mut Vec<u8>,
-    ) -> Result<Option<IdentifierName>, ReadError> {
-        let kind = self.small("the kind of the identifier's name", 2)?;
+    fn identifier_name(&mut self) -> Result<Option<IdentifierName>, ReadError> {
+        let kind = self.between("the kind of the identifier's name", 0, 2)?;
         let field = "the identifier's name";
-        let name = self.name(field, text)?;
-        match (kind, name) {
+        match (kind, self.name(field)?) {
             (0, None) => Ok(None),
             (1, Some(name)) => Ok(Some(IdentifierName::Named(name))),
             (2, Some(name)) => Ok(Some(IdentifierName::Promoted(name))),
-            (0, Some(_)) => Err(ReadError::Line(self.fault(field, Wrong::NameUnexpected))),
-            _ => Err(ReadError::Line(self.fault(field, Wrong::NameExpected))),
+            (0, Some(_)) => Err(self.fault(Wrong::NameUnexpected(field)).into()),
+            _ => Err(self.fault(Wrong::NameExpected(field)).into()),
         }
     }
 
-    pub fn place(&mut self, text: &mut Vec<u8>) -> Result<Place, ReadError> {
-        let role = self.small("the place's role", 5)?;
-        let name = self.name("the place's name", text)?;
-        let identifier = IdentifierId(self.word("the place's identifier")?);
-        let effect = self.small("the place's effect", 7)?;
-        let reactive = self.bit("the place's reactive bit")?;
-        let span = self.word("the place's span")?;
+    pub fn identifier(&mut self) -> Result<Identifier, ReadError> {
+        Ok(Identifier {
+            declaration: self.word("the declaration number")?,
+            name: self.identifier_name()?,
+        })
+    }
+
+    pub fn place(&mut self) -> Result<Place, ReadError> {
         Ok(Place {
-            role,
-            name,
-            identifier,
-            effect,
-            reactive,
-            span,
+            role: self.kind("the place's role", Role::Read as u8, Role::Written as u8)?,
+            name: self.name("the place's name")?,
+            identifier: IdentifierId(self.word("the place's identifier")?),
+            effect: self.kind(
+                "the place's effect",
+                Effect::Unknown as u8,
+                Effect::Store as u8,
+            )?,
+            reactive: self.bit("the place's reactive bit")?,
+            span: self.word("the place's span")?,
+        })
+    }
+
+    pub fn instruction(&mut self) -> Result<Instruction, ReadError> {
+        Ok(Instruction {
+            order: self.word("the order")?,
+            kind: self.kind(
+                "the kind",
+                ValueKind::Phi as u8,
+                ValueKind::FinishMemoize as u8,
+            )?,
+            result: self.place()?,
+            name: self.name("the row's name")?,
+            detail: self.between("the detail", 0, u64::MAX)?,
+            function: FunctionId(self.word("the function number")?),
+            places: self.run("the first place", "the count of places")?,
+            span: self.word("the span")?,
+            opening: self.word("the opening number")?,
+            closing: self.word("the closing number")?,
+            effects: self.word("the effects number")?,
+        })
+    }
+
+    pub fn block(&mut self) -> Result<BasicBlock, ReadError> {
+        Ok(BasicBlock {
+            kind: self.kind(
+                "the block's kind",
+                BlockKind::Block as u8,
+                BlockKind::Catch as u8,
+            )?,
+            terminal: self.kind(
+                "the terminal",
+                Terminal::Unreachable as u8,
+                Terminal::PrunedScope as u8,
+            )?,
+            detail: self.word("the terminal's detail")?,
+            places: self.run("the first terminal place", "the count of terminal places")?,
+            instructions: self.run("the first list number", "the count of rows")?,
+            preds: self.run("the first predecessor", "the count of predecessors")?,
+        })
+    }
+
+    pub fn function(&mut self) -> Result<HirFunction, ReadError> {
+        Ok(HirFunction {
+            fn_type: self.kind(
+                "the function's type",
+                FunctionType::Component as u8,
+                FunctionType::Other as u8,
+            )?,
+            blocks: self.run("the first block", "the count of blocks")?,
+            params: self.run("the first parameter", "the count of parameters")?,
+            context: self.run("the first context place", "the count of context places")?,
+            returns: self.place()?,
+            tag: self.name("the tag")?,
+            appended: self.bit("the appended bit")?,
         })
     }
 
     // Every field of the line has been read.
-    pub fn end(&self) -> Result<(), Fault> {
-        if self.next < self.parts.len() {
-            return Err(self.fault("", Wrong::Extra));
+    pub fn end(&mut self) -> Result<(), Fault> {
+        match self.parts.next() {
+            Some(_) => Err(self.fault(Wrong::Extra)),
+            None => Ok(()),
         }
-        Ok(())
     }
 }

@@ -4,6 +4,7 @@
 mod fault;
 mod fields;
 mod lines;
+mod table;
 
 pub use fault::{Fault, ReadError, Wrong};
 pub use lines::read;

@@ -2,11 +2,11 @@
 use Rattle.std.specs.Prelude.{◌≡◌, ℕ, ◌+◌, ◌<◌, ◌≤◌, ◌⊎◌, List, length, get_or, slice_index, slice_index_or}
 use Rattle.std.specs.List.{AllByRecursion}
 use Rattle.rules.specs.Eliminations.{Meaning, eliminated}
+use Rattle.hir.specs.declared.rows.Counts.{Counts}
 use Rattle.hir.specs.declared.rows.Run.{Run}
 use Rattle.hir.specs.declared.rows.Store.{Store}
 use Rattle.hir.specs.Tables.{Tables, tables, Held}
 use Rattle.hir.specs.View.{null_block, null_function, view}
-use Rattle.hir.specs.WellFormed.{WellFormed}
 use Rattle.hir.specs.Lists.{block_of}
 use Rattle.hir.specs.Frame.{Kept, without_list}
 
@@ -14,11 +14,10 @@ use Rattle.hir.specs.Frame.{Kept, without_list}
 abbrev pub Zero : List ℕ → Type 0
 Zero marks = AllByRecursion (λ m. m ≡ 0) marks
 
--- A store whose form was checked, one of its functions, and a zero mark byte for each identifier.
-pub record Ready (t : Tables) (f : ℕ) (marks : List ℕ) : Type 0 where
-  pub well : WellFormed t
-  pub function : f < t.counts.functions
-  pub wide : t.counts.identifiers ≤ length marks
+-- One of the functions, and a zero mark byte for each identifier.
+pub record Ready (c : Counts) (f : ℕ) (marks : List ℕ) : Type 0 where
+  pub function : f < c.functions
+  pub wide : c.identifiers ≤ length marks
   pub zero : Zero marks
 
 -- the row is none of the run
@@ -44,11 +43,10 @@ pub record OnlyLists (t u : Tables) (f : ℕ) : Type 0 where
   pub blocks : (n : ℕ) → without_list (slice_index_or u.blocks n null_block) ≡ without_list (slice_index_or t.blocks n null_block)
   pub other_blocks : (n : ℕ) → Outside (get_or t.functions f null_function).blocks n → slice_index_or u.blocks n null_block ≡ slice_index_or t.blocks n null_block
 
--- What an elimination does to function f: the store then says what the meaning says, is well formed again, nothing but lists has changed,
--- and the same slices are lent.
+-- What an elimination does to function f: the store then says what the meaning says, nothing but lists has changed, and the same slices are
+-- lent.
 pub record Eliminates (m : Meaning) (before after : Store) (f : ℕ) : Type 0 where
   pub seen : view (tables after) ≡ eliminated m (view (tables before)) f
-  pub well : WellFormed (tables after)
   pub kept : Kept (tables before) (tables after)
   pub only : OnlyLists (tables before) (tables after) f
   pub held : Held after before

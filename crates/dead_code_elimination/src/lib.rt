@@ -7,13 +7,13 @@ ghost use Rattle.rules.specs.Views.{with_list};
 ghost use Rattle.rules.specs.Eliminations.{Meaning, Lawful, eliminated, keep};
 ghost use Rattle.hir.specs.Tables.{tables, Held};
 ghost use Rattle.hir.specs.View.{instructions_at, rows, view};
-ghost use Rattle.hir.specs.WellFormed.{numbers_limit, Room, WellFormed};
+ghost use Rattle.hir.specs.WellFormed.{numbers_limit, Room};
 ghost use Rattle.hir.specs.Lists.{block_number, HasBlock, ListFits, UnlistedBut};
 ghost use Rattle.hir.specs.Frame.{Kept};
 ghost use Rattle.dead_code_elimination.specs.Elimination.{Eliminates, Ready, Zero};
 ghost use Rattle.rules.proofs.Sweeping.{keep_lawful};
 
-use hir::{FunctionId, Store};
+use hir::{FormedStore, FunctionId};
 use store::set_block_list;
 
 // An elimination is known by its meaning: the lists that it leaves to the blocks of a function, worked out of what the store says. By the
@@ -22,8 +22,8 @@ pub trait Elimination {
     ghost meaning: { Meaning };
 
     // The mark bytes are its to use, and are zero again when it returns.
-    fn eliminate(&self, store: &mut Store<'_>, function: FunctionId, marks: &mut [u8])
-        requires { Ready (tables store.old) function.0 marks.old }
+    fn eliminate(&self, store: &mut FormedStore<'_>, function: FunctionId, marks: &mut [u8])
+        requires { Ready store.old.counts function.0 marks.old }
         ensures does { Eliminates meaning store.old store.new function.0 }
         ensures clear { Zero marks.new };
 
@@ -39,25 +39,24 @@ impl Elimination for Keep {
 
     ghost lawful = { keep_lawful };
 
-    fn eliminate(&self, _store: &mut Store<'_>, _function: FunctionId, _marks: &mut [u8]) {}
+    fn eliminate(&self, _store: &mut FormedStore<'_>, _function: FunctionId, _marks: &mut [u8]) {}
 }
 
 // The k-th block of a function is given a new list; then what this leaves unread may go.
 pub fn rewrite_block<E: Elimination>(
     elimination: &E,
-    store: &mut Store<'_>,
+    store: &mut FormedStore<'_>,
     function: FunctionId,
     k: u32,
     list: &[u32],
     marks: &mut [u8],
 )
-    requires ready { Ready (tables store.old) function.0 marks.old }
+    requires ready { Ready store.old.counts function.0 marks.old }
     requires has { HasBlock (tables store.old) function.0 k }
     requires room { Room store.old.counts.numbers (length list.now) (length store.old.numbers.now) numbers_limit }
     requires fits { ListFits (tables store.old) list.now }
     requires unlisted { UnlistedBut (tables store.old) (block_number (tables store.old) function.0 k) list.now }
     ensures seen { view (tables store.new) ≡ eliminated E.Elimination.meaning (with_list (view (tables store.old)) function.0 k (instructions_at (rows (tables store.old)) list.now)) function.0 }
-    ensures well { WellFormed (tables store.new) }
     ensures kept { Kept (tables store.old) (tables store.new) }
     ensures held { Held store.new store.old }
     ensures clear { Zero marks.new }

@@ -2,13 +2,16 @@
 #![tactic(auto)]
 
 mod counts;
+mod formed;
 mod keys;
 mod numbers;
 mod reading;
 mod rows;
 mod tag;
+mod writing;
 
 pub use counts::LIMITS;
+pub use formed::FormedStore;
 pub use keys::spelling;
 pub use numbers::is_acting;
 pub use reading::{used_row, used_run};
@@ -17,3 +20,4 @@ pub use rows::{
     Instruction, InstructionId, Name, Place, Run, Store,
 };
 pub use tag::{Report, Tag};
+pub use writing::write_rows;

@@ -1,132 +1,107 @@
--- The walk through a function, part by part.
-use Rattle.std.proofs.Common.{◌≡◌, ℕ, zero, suc, ◌+◌, ◌-◌, ◌<◌, ◌≤◌, Bool, true, false, ◌≢◌, List, [], ◌∷◌, ◌++◌, length, get_or, take, drop, set, sym, refl, ap, ◌∙◌, subst, inl, inr, append_assoc, append-nil, add-one, sub-one, arith}
-use lib.Seq.{take-length}
+-- The walks from several functions, one after another, and those that are left.
+use Rattle.std.proofs.Common.{◌≡◌, ℕ, zero, suc, ◌+◌, ◌-◌, ◌<◌, ◌≤◌, Bool, true, false, List, [], ◌∷◌, ◌++◌, length, map, drop, get_or, set, sym, refl, ap, ◌∙◌, subst, append_assoc, append-nil, arith}
 use Rattle.std.specs.List.{AllByRecursion}
-use Rattle.std.proofs.ByRecursion.{All-push}
+use Rattle.std.proofs.ByRecursion.{All-append}
 use Rattle.std.proofs.lemmas.List.{drop_all}
 use Rattle.rules.specs.Lists.{gathered, backwards}
-use Rattle.std.proofs.lemmas.Bool.{eq-eqb}
-use Rattle.std.proofs.lemmas.Bool.Decides.{eqb_tells}
-use Rattle.rules.specs.Kinds.{function_expression_kind}
-use Rattle.rules.specs.Views.{InstructionV, BlockV, FunctionV, Hir, function_at, is_function, block_rows}
-use Rattle.rules.proofs.Membership.{In, in_head, gathered-++}
+use Rattle.rules.specs.Views.{InstructionV, BlockV, Hir, function_at, is_function, block_rows}
 use Rattle.rules.specs.Drawn.{inner, inner_of, on_walk}
-use Rattle.hir.specs.declared.rows.Instruction.{Instruction}
-use Rattle.hir.specs.Tables.{Tables}
-use Rattle.hir.specs.View.{Rows, instruction_at, instruction_view, instructions_at, null_function, view}
-use Rattle.hir.specs.WellFormed.{WellFormed}
-use Rattle.refusals.proofs.Blocks.{function_is, block_first}
+use Rattle.rules.proofs.Membership.{In, in_head, gathered-++}
 use Rattle.refusals.specs.Walked.{NoDeeper}
-use Rattle.inner_walk.specs.Passing.{Passable, Passed, Walkable, Walks}
-use Rattle.inner_walk.proofs.Joined.{able_first, able_rest, joined, one}
+use Rattle.refusals.proofs.Blocks.{block_first}
+use Rattle.inner_walk.specs.Passing.{Passable, Passed, Walkable, Walks, AllWalkable, AllWalked}
+use Rattle.inner_walk.proofs.Joined.{one, able_first, able_rest, joined}
 
-all_left : {A : Type 0} (P : A → Type 0) (xs ys : List A) → AllByRecursion P (xs ++ ys) → AllByRecursion P xs
-all_left P [] ys a = tt
-all_left P (x ∷ xs) ys a = (a.0, all_left P xs ys a.1)
+module _ {A : Type 0} (P : A → Type 0) where
+  pub all_left : (xs ys : List A) → AllByRecursion P (xs ++ ys) → AllByRecursion P xs
+  all_left [] ys a = tt
+  all_left (x ∷ xs) ys a = (a.0, all_left xs ys a.1)
 
-all_right : {A : Type 0} (P : A → Type 0) (xs ys : List A) → AllByRecursion P (xs ++ ys) → AllByRecursion P ys
-all_right P [] ys a = a
-all_right P (x ∷ xs) ys a = all_right P xs ys a.1
+  all_right : (xs ys : List A) → AllByRecursion P (xs ++ ys) → AllByRecursion P ys
+  all_right [] ys a = a
+  all_right (x ∷ xs) ys a = all_right xs ys a.1
 
--- Some inner functions are gone through, these are left: of all that function f has.
-pub record Going (d : ℕ) (h : Hir) (f : ℕ) (rest before now : List ℕ) : Type 0 where
+-- Of these functions some have been gone through, and these are left.
+pub record Going (d : ℕ) (h : Hir) (all left before now : List ℕ) : Type 0 where
   pub gone : List ℕ
-  pub whole : gone ++ rest ≡ inner_of (function_at h f).blocks
-  pub deep : AllByRecursion (NoDeeper d h) gone
-  pub passed : Passed h (f ∷ gathered (on_walk d h) gone) before now
+  pub whole : gone ++ left ≡ all
+  pub walked : AllWalked d h gone before now
 
-pub started : (d : ℕ) (h : Hir) (f : ℕ) (before now : List ℕ) → Passed h (f ∷ []) before now → Going d h f (inner_of (function_at h f).blocks) before now
-started d h f before now p = record { gone = []; whole = refl; deep = tt; passed = p }
+module _ (d : ℕ) (h : Hir) where
+  went : (all fs left before now after : List ℕ) → Going d h all (fs ++ left) before now → AllWalked d h fs now after → Going d h all left before after
+  went all fs left before now after s w = record {
+    gone = s.gone ++ fs;
+    whole = append_assoc s.gone fs left ∙ s.whole;
+    walked = record {
+      deep = All-append (NoDeeper d h) s.gone fs s.walked.deep w.deep;
+      passed = subst (λ gs. Passed h gs before after) (sym (gathered-++ (on_walk d h) s.gone fs)) (joined h (gathered (on_walk d h) s.gone) (gathered (on_walk d h) fs) before now after s.walked.passed w.passed);
+    };
+  }
 
--- the same is left, in another form
-pub same_rest : (d : ℕ) (h : Hir) (f : ℕ) (rest rest' before now : List ℕ) → rest ≡ rest' → Going d h f rest before now → Going d h f rest' before now
-same_rest d h f rest rest' before now e s = subst (λ x. Going d h f x before now) e s
+  turned_back : (all fs left before now : List ℕ) → Going d h all (fs ++ left) before now → (AllWalkable d h fs now → ⊥) → AllWalkable d h all before → ⊥
+  turned_back all fs left before now s n w =
+      let walk = gathered (on_walk d h) in
+      let e : walk all ≡ walk s.gone ++ (walk fs ++ walk left) = ap walk (sym s.whole) ∙ gathered-++ (on_walk d h) s.gone (fs ++ left) ∙ ap (λ gs. walk s.gone ++ gs) (gathered-++ (on_walk d h) fs left) in
+      n (record {
+        deep = all_left (NoDeeper d h) fs left (all_right (NoDeeper d h) s.gone (fs ++ left) (subst (AllByRecursion (NoDeeper d h)) (sym s.whole) w.deep));
+        able = able_first h (walk fs) (walk left) now (able_rest h (walk s.gone) (walk fs ++ walk left) before now s.walked.passed (subst (λ gs. Passable h gs before) e w.able));
+      })
 
-pub went : (d : ℕ) (h : Hir) (f g : ℕ) (rest before now after : List ℕ) → Going d h f (g ∷ rest) before now → Walks d h g now after → Going d h f rest before after
-went d h f g rest before now after s w = record {
-  gone = s.gone ++ (g ∷ []);
-  whole = append_assoc s.gone (g ∷ []) rest ∙ s.whole;
-  deep = All-push (NoDeeper d h) s.gone g s.deep w.deep;
-  passed = subst (λ fs. Passed h fs before after)
-      (ap (λ zs. f ∷ (gathered (on_walk d h) s.gone ++ zs)) (sym (append-nil (on_walk d h g))) ∙ ap (λ zs. f ∷ zs) (sym (gathered-++ (on_walk d h) s.gone (g ∷ []))))
-      (joined h (f ∷ gathered (on_walk d h) s.gone) (on_walk d h g) before now after s.passed w.passed);
-}
+-- Block k of these comes next, or none is left.
+module _ (d : ℕ) (h : Hir) (bs : List BlockV) (k : ℕ) (before now : List ℕ) (s : Going d h (inner_of bs) (inner_of (drop k bs)) before now) where
+  pub none_left : length bs ≤ k → AllWalked d h (inner_of bs) before now
+  none_left l = subst (λ gs. AllWalked d h gs before now) (sym (append-nil s.gone) ∙ ap (λ cs. s.gone ++ inner_of cs) (sym (drop_all k bs l)) ∙ s.whole) s.walked
 
-pub ended : (n : ℕ) (h : Hir) (f : ℕ) (before now : List ℕ) → 0 < n → Going (n - 1) h f [] before now → Walks n h f before now
-ended zero h f before now z s = absurd (omega arith)
-ended (suc d) h f before now z s' =
-    let s : Going d h f [] before now = subst (λ m. Going m h f [] before now) (sub-one (suc d)) s' in
-    let e : s.gone ≡ inner_of (function_at h f).blocks = sym (append-nil s.gone) ∙ s.whole in
-    record { deep = subst (AllByRecursion (NoDeeper d h)) e s.deep; passed = subst (λ gs. Passed h (f ∷ gathered (on_walk d h) gs) before now) e s.passed }
+  module _ (l : k < length bs) where
+    first : Going d h (inner_of bs) (inner (backwards (block_rows bs k)) ++ inner_of (drop (k + 1) bs)) before now
+    first = subst (λ gs. Going d h (inner_of bs) gs before now) (block_first bs k l) s
 
-pub turned_back : (n : ℕ) (h : Hir) (f g : ℕ) (rest before now : List ℕ) → 0 < n → Going (n - 1) h f (g ∷ rest) before now → (Walkable (n - 1) h g now → ⊥) → Walkable n h f before → ⊥
-turned_back zero h f g rest before now z s u w = omega arith
-turned_back (suc d) h f g rest before now z s' u' w =
-    let s : Going d h f (g ∷ rest) before now = subst (λ m. Going m h f (g ∷ rest) before now) (sub-one (suc d)) s' in
-    let u : Walkable d h g now → ⊥ = subst (λ m. Walkable m h g now → ⊥) (sub-one (suc d)) u' in
-    let gone = s.gone in
-    let fs = f ∷ gathered (on_walk d h) gone in
-    let e : f ∷ gathered (on_walk d h) (inner_of (function_at h f).blocks) ≡ fs ++ (on_walk d h g ++ gathered (on_walk d h) rest) = ap (λ zs. f ∷ gathered (on_walk d h) zs) (sym s.whole) ∙ ap (λ zs. f ∷ zs) (gathered-++ (on_walk d h) gone (g ∷ rest)) in
-    let a = able_rest h fs (on_walk d h g ++ gathered (on_walk d h) rest) before now s.passed (subst (λ zs. Passable h zs before) e w.able) in
-    u (record { deep = (all_right (NoDeeper d h) gone (g ∷ rest) (subst (AllByRecursion (NoDeeper d h)) (sym s.whole) w.deep)).0; able = able_first h (on_walk d h g) (gathered (on_walk d h) rest) now a })
+    pub block_walked : (after : List ℕ) → AllWalked d h (inner (backwards (block_rows bs k))) now after → Going d h (inner_of bs) (inner_of (drop (k + 1) bs)) before after
+    block_walked after w = went d h (inner_of bs) (inner (backwards (block_rows bs k))) (inner_of (drop (k + 1) bs)) before now after first w
 
--- What is left of a function's inner functions: of block k the first j rows, and the blocks after it.
+    pub block_refused : (AllWalkable d h (inner (backwards (block_rows bs k))) now → ⊥) → AllWalkable d h (inner_of bs) before → ⊥
+    block_refused n = turned_back d h (inner_of bs) (inner (backwards (block_rows bs k))) (inner_of (drop (k + 1) bs)) before now first n
 
-last_first : {A : Type 0} (xs : List A) (y : A) → backwards (xs ++ (y ∷ [])) ≡ y ∷ backwards xs
-last_first [] y = refl
-last_first (x ∷ xs) y = ap (λ zs. zs ++ (x ∷ [])) (last_first xs y)
+-- The last row of a list, x: its inner function g comes next, or there is none.
+module _ (f : ℕ → InstructionV) where
+  inner_first : (i : InstructionV) (is : List InstructionV) (b : Bool) → is_function i ≡ b → inner (i ∷ is) ≡ elim b [ true ↦ i.function ∷ inner is | false ↦ inner is ]
+  inner_first i is b e = ap (λ (b : Bool). elim b as (λ _. List ℕ) [ true ↦ i.function ∷ inner is | false ↦ inner is ]) e
 
-abbrev pub left_of : Rows → Hir → ℕ → ℕ → List ℕ → ℕ → List ℕ
-left_of r h f k list j = inner (backwards (instructions_at r (take j list))) ++ inner_of (drop (k + 1) (function_at h f).blocks)
+  last_first : (ys : List ℕ) (x : ℕ) → backwards (map f (ys ++ (x ∷ []))) ≡ f x ∷ backwards (map f ys)
+  last_first [] x = refl
+  last_first (y ∷ ys) x = ap (λ zs. zs ++ (f y ∷ [])) (last_first ys x)
 
-mapped_take : (r : Rows) (list : List ℕ) (j : ℕ) → j < length list → instructions_at r (take (j + 1) list) ≡ instructions_at r (take j list) ++ (instruction_at r (get_or list j 0) ∷ [])
-mapped_take r [] j h = absurd (omega arith)
-mapped_take r (x ∷ xs) zero h = refl
-mapped_take r (x ∷ xs) (suc j) h = rw add-one (ap (λ zs. instruction_at r x ∷ zs) (rw add-one at (mapped_take r xs j (omega arith))))
+  left_by : (xs ys : List ℕ) (x : ℕ) (b : Bool) → xs ≡ ys ++ (x ∷ []) → is_function (f x) ≡ b → inner (backwards (map f xs)) ≡ elim b [ true ↦ (f x).function ∷ inner (backwards (map f ys)) | false ↦ inner (backwards (map f ys)) ]
+  left_by xs ys x b e t =
+      ap (λ zs. inner (backwards (map f zs))) e ∙ ap inner (last_first ys x) ∙ inner_first (f x) (backwards (map f ys)) b t
 
-inner_cons : (b : Bool) (i : InstructionV) (is : List InstructionV) → is_function i ≡ b → inner (i ∷ is) ≡ elim b [ true ↦ i.function ∷ inner is | false ↦ inner is ]
-inner_cons b i is e = ap (λ (x : Bool). elim x as (λ _. List ℕ) [ true ↦ i.function ∷ inner is | false ↦ inner is ]) e
+  module _ (d : ℕ) (h : Hir) (all xs ys before now : List ℕ) (x : ℕ) (e : xs ≡ ys ++ (x ∷ [])) (s : Going d h all (inner (backwards (map f xs))) before now) where
+    pub none_named : is_function (f x) ≡ false → Going d h all (inner (backwards (map f ys))) before now
+    none_named t = subst (λ gs. Going d h all gs before now) (left_by xs ys x false e t) s
 
--- the row at j: its inner function is next, or there is none
-pub next_inner : (r : Rows) (h : Hir) (f k j : ℕ) (list : List ℕ) (x : Instruction) → j < length list → instruction_at r (get_or list j 0) ≡ instruction_view r x → is_function (instruction_view r x) ≡ true → left_of r h f k list (j + 1) ≡ x.function.0 ∷ left_of r h f k list j
-next_inner r h f k j list x l e t =
-    let i = instruction_at r (get_or list j 0) in
-    let is = instructions_at r (take j list) in
-    ap (λ zs. zs ++ inner_of (drop (k + 1) (function_at h f).blocks))
-    (ap (λ zs. inner (backwards zs)) (mapped_take r list j l) ∙ ap inner (last_first is i) ∙ inner_cons true i (backwards is) (ap is_function e ∙ t) ∙ ap (λ (v : InstructionV). v.function ∷ inner (backwards is)) e)
+    module _ (g : ℕ) (t : is_function (f x) ≡ true) (named : (f x).function ≡ g) where
+      next : Going d h all ((g ∷ []) ++ inner (backwards (map f ys))) before now
+      next = subst (λ gs. Going d h all gs before now) (left_by xs ys x true e t ∙ ap (λ k. k ∷ inner (backwards (map f ys))) named) s
 
-pub no_inner : (r : Rows) (h : Hir) (f k j : ℕ) (list : List ℕ) (x : Instruction) → j < length list → instruction_at r (get_or list j 0) ≡ instruction_view r x → is_function (instruction_view r x) ≡ false → left_of r h f k list (j + 1) ≡ left_of r h f k list j
-no_inner r h f k j list x l e t =
-    let i = instruction_at r (get_or list j 0) in
-    let is = instructions_at r (take j list) in
-    ap (λ zs. zs ++ inner_of (drop (k + 1) (function_at h f).blocks))
-    (ap (λ zs. inner (backwards zs)) (mapped_take r list j l) ∙ ap inner (last_first is i) ∙ inner_cons false i (backwards is) (ap is_function e ∙ t))
+      pub named_walked : (after : List ℕ) → Walks d h g now after → Going d h all (inner (backwards (map f ys))) before after
+      named_walked after w = went d h all (g ∷ []) (inner (backwards (map f ys))) before now after next (record { deep = (w.deep, tt); passed = subst (λ gs. Passed h gs now after) (sym (append-nil (on_walk d h g))) w.passed })
 
--- a block begins with all of its rows left
-pub block_begins : (r : Rows) (h : Hir) (f k : ℕ) (list : List ℕ) → k < length (function_at h f).blocks → instructions_at r list ≡ block_rows (function_at h f).blocks k → inner_of (drop k (function_at h f).blocks) ≡ left_of r h f k list (length list)
-block_begins r h f k list l e =
-    block_first (function_at h f).blocks k l
-    ∙ ap (λ zs. inner (backwards zs) ++ inner_of (drop (k + 1) (function_at h f).blocks)) (sym e ∙ ap (instructions_at r) (sym (take-length list)))
+      pub named_refused : (Walkable d h g now → ⊥) → AllWalkable d h all before → ⊥
+      named_refused n = turned_back d h all (g ∷ []) (inner (backwards (map f ys))) before now next (λ w. n (record { deep = w.deep.0; able = subst (λ gs. Passable h gs now) (append-nil (on_walk d h g)) w.able }))
 
--- the same for the last of j rows
-pub last_inner : (r : Rows) (h : Hir) (f k j : ℕ) (list : List ℕ) (x : Instruction) → 0 < j → j ≤ length list → instruction_at r (get_or list (j - 1) 0) ≡ instruction_view r x → x.kind ≡ function_expression_kind → left_of r h f k list j ≡ x.function.0 ∷ left_of r h f k list (j - 1)
-last_inner r h f k j list x z l e t =
-    let p : j ≡ j - 1 + 1 = omega arith in
-    ap (left_of r h f k list) p ∙ next_inner r h f k (j - 1) list x (omega arith) e (eq-eqb x.kind function_expression_kind t)
+one_less : (n : ℕ) → 0 < n → suc (n - 1) ≡ n
+one_less n z = omega arith
 
-pub last_none : (r : Rows) (h : Hir) (f k j : ℕ) (list : List ℕ) (x : Instruction) → 0 < j → j ≤ length list → instruction_at r (get_or list (j - 1) 0) ≡ instruction_view r x → x.kind ≢ function_expression_kind → left_of r h f k list j ≡ left_of r h f k list (j - 1)
-last_none r h f k j list x z l e t =
-    let p : j ≡ j - 1 + 1 = omega arith in
-    ap (left_of r h f k list) p ∙ no_inner r h f k (j - 1) list x (omega arith) e (elim (eqb_tells x.kind function_expression_kind) [ inl y ↦ absurd (t y.1) | inr n ↦ n.0 ])
+-- a function itself comes first, then its inner functions
+module _ (h : Hir) (f : ℕ) where
+  pub itself : (n : ℕ) → 0 < n → In f (on_walk n h f)
+  itself zero z = absurd (omega arith)
+  itself (suc d) z = in_head f (gathered (on_walk d h) (inner_of (function_at h f).blocks))
 
--- the function itself comes first
-pub itself : (n : ℕ) (h : Hir) (f : ℕ) → 0 < n → In f (on_walk n h f)
-itself zero h f z = absurd (omega arith)
-itself (suc d) h f z = in_head f (gathered (on_walk d h) (inner_of (function_at h f).blocks))
+  module _ (n : ℕ) (before : List ℕ) (z : 0 < n) (l : f < length before) (own : (function_at h f).appended ≡ false) (free : get_or before f 0 ≡ 0) where
+    pub ended : (now : List ℕ) → AllWalked (n - 1) h (inner_of (function_at h f).blocks) (set before f 1) now → Walks n h f before now
+    ended now w = subst (λ m. Walks m h f before now) (one_less n z) (record { deep = w.deep; passed = joined h (f ∷ []) (gathered (on_walk (n - 1) h) (inner_of (function_at h f).blocks)) before (set before f 1) now (one h f before l own free) w.passed })
 
-pub marked_first : (d : ℕ) (t : Tables) → WellFormed t → (f : ℕ) → f < t.counts.functions → (ms : List ℕ) → f < length ms → (get_or t.functions f null_function).appended ≡ false → get_or ms f 0 ≡ 0 → Going d (view t) f (inner_of (function_at (view t) f).blocks) ms (set ms f 1)
-marked_first d t w f u ms l a z = started d (view t) f ms (set ms f 1) (one (view t) f ms l (ap (λ (g : FunctionV). g.appended) (function_is t w f u) ∙ a) z)
-
--- past the last block nothing is left
-pub none_left : (bs : List BlockV) (k : ℕ) → length bs ≤ k → inner_of (drop k bs) ≡ []
-none_left bs k h = ap inner_of (drop_all k bs h)
+    pub not_begun : (AllWalkable (n - 1) h (inner_of (function_at h f).blocks) (set before f 1) → ⊥) → Walkable n h f before → ⊥
+    not_begun u v = let w = subst (λ m. Walkable m h f before) (sym (one_less n z)) v in
+        u (record { deep = w.deep; able = able_rest h (f ∷ []) (gathered (on_walk (n - 1) h) (inner_of (function_at h f).blocks)) before (set before f 1) (one h f before l own free) w.able })

@@ -1,6 +1,7 @@
 -- Functions passed on the walk, and the marks that are set for them.
 use Rattle.std.specs.Prelude.{◌≡◌, ℕ, ◌<◌, true, false, ◌⊎◌, List, slice_index}
-use Rattle.rules.specs.Lists.{within, Distinct}
+use Rattle.std.specs.List.{AllByRecursion}
+use Rattle.rules.specs.Lists.{gathered, within, Distinct}
 use Rattle.rules.specs.Views.{Hir, function_at}
 use Rattle.rules.specs.Drawn.{on_walk}
 use Rattle.refusals.specs.Walked.{NoDeeper}
@@ -26,3 +27,12 @@ pub record Walkable (d : ℕ) (h : Hir) (f : ℕ) (marks : List ℕ) : Type 0 wh
 pub record Walks (d : ℕ) (h : Hir) (f : ℕ) (before after : List ℕ) : Type 0 where
   pub deep : NoDeeper d h f
   pub passed : Passed h (on_walk d h f) before after
+
+-- The same of the walks from several functions, one after another.
+pub record AllWalkable (d : ℕ) (h : Hir) (fs : List ℕ) (marks : List ℕ) : Type 0 where
+  pub deep : AllByRecursion (NoDeeper d h) fs
+  pub able : Passable h (gathered (on_walk d h) fs) marks
+
+pub record AllWalked (d : ℕ) (h : Hir) (fs : List ℕ) (before after : List ℕ) : Type 0 where
+  pub deep : AllByRecursion (NoDeeper d h) fs
+  pub passed : Passed h (gathered (on_walk d h) fs) before after

@@ -8,7 +8,8 @@ use Rattle.hir.specs.declared.rows.IdentifierName.{IdentifierName}
 use Rattle.hir.specs.declared.rows.IdentifierName.TheVariants.{Named, Promoted}
 use Rattle.hir.specs.Tables.{Tables}
 use Rattle.hir.specs.View.{rows, view, spelt_if, name_view, identifier_view, null_identifier}
-use Rattle.hir.specs.WellFormed.{NameIfFits, IdentifierNameFits, IdentifierFits, WellFormed}
+use Rattle.hir.specs.WellFormed.{NameIfFits, IdentifierNameFits, IdentifierFits}
+use Rattle.hir.specs.Legible.{Legible}
 use Rattle.hir.proofs.Growth.{sizes_are}
 use Rattle.refusals.specs.Walked.{bytes_if, name_of}
 use Rattle.hir.specs.Given.{name_if}
@@ -23,15 +24,15 @@ spelt_name text None = refl
 spelt_name text (Some (Named n)) = refl
 spelt_name text (Some (Promoted n)) = refl
 
-module _ (t : Tables) (w : WellFormed t) (x : ℕ) (h : x < t.counts.identifiers) where
+module _ (t : Tables) (l : Legible t) (x : ℕ) (h : x < t.counts.identifiers) where
   row_is : get_or (rows t).identifiers x null_identifier ≡ get_or t.identifiers x null_identifier
   row_is = get_or-take t.counts.identifiers t.identifiers x null_identifier h
 
   size : length (rows t).identifiers ≡ t.counts.identifiers
-  size = ap (λ (c : Counts). c.identifiers) (sizes_are t w.counted)
+  size = ap (λ (c : Counts). c.identifiers) (sizes_are t l.readable.counted)
 
   pub name_if_fits : NameIfFits t.counts (name_if (get_or t.identifiers x null_identifier).name)
-  name_if_fits = name_fits t.counts (get_or t.identifiers x null_identifier).name (subst (IdentifierFits t.counts) row_is (All-get_or (IdentifierFits t.counts) (rows t).identifiers x null_identifier (omega (arith, size)) w.sound.identifiers))
+  name_if_fits = name_fits t.counts (get_or t.identifiers x null_identifier).name (subst (IdentifierFits t.counts) row_is (All-get_or (IdentifierFits t.counts) (rows t).identifiers x null_identifier (omega (arith, size)) l.identifiers))
 
   pub name_seen : name_of (view t) x ≡ spelt_if (view t).text (name_if (get_or t.identifiers x null_identifier).name)
   name_seen =

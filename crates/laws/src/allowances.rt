@@ -1,5 +1,4 @@
-// How much an outline may take of each table, by what was counted on the functions that it walks: attributes, children, elements, pairs
-// (the elements of each block halved), listed rows and the bytes of attribute names.
+// How much an outline may take of each table, by what was counted on the functions that it walks.
 ghost use Rattle.std.specs.Prelude.{◌≡◌, ◌^◌, ◌<◌, ◌≤◌};
 ghost use Rattle.laws.specs.Allowances.{pairs_of, listed_of, identifiers_allowance, instructions_allowance, numbers_allowance, places_allowance, blocks_allowance, functions_allowance, text_allowance, identifiers_allowed};
 ghost use Rattle.laws.specs.Sufficing.{IdentifiersSuffice, InstructionsSuffice, NumbersSuffice, PlacesSuffice, BlocksSuffice, FunctionsSuffice};
@@ -15,51 +14,70 @@ pub fn pairs_of(elements: u64) -> u64
 }
 
 // The length of a block's new list at most, if it can have a group at all.
-pub fn listed_of(elements: u64, rows: u64) -> u64
-    requires { (elements < 2 ^ 40) × (rows < 2 ^ 40) }
+pub fn listed_of(elements: u64, rows: u64) -> u128
     ensures { result ≡ listed_of elements rows }
 {
     if 2 <= elements {
-        rows + elements / 2
+        rows as u128 + elements as u128 / 2
     } else {
         0
     }
 }
 
-// Each entry takes an identifier, and each group four more.
-pub fn identifiers_allowance(attributes: u64, children: u64, pairs: u64) -> u64
-    requires { (attributes < 2 ^ 40) × ((children < 2 ^ 40) × (pairs < 2 ^ 40)) }
-    ensures allowed { result ≡ identifiers_allowance attributes children pairs }
-    ensures suffices { IdentifiersSuffice }
-{
-    attributes + children + 4 * pairs
+// What was counted on the functions that an outline walks: the attributes, children and elements, the elements of each block halved, the
+// rows of new lists, and the bytes of attribute names. An allowance may need more bits than a count.
+#[derive(Clone, Copy)]
+pub struct Tally {
+    pub attributes: u64,
+    pub children: u64,
+    pub elements: u64,
+    pub pairs: u64,
+    pub listed: u64,
+    pub letters: u64,
 }
 
-// A Destructure and the two rows of the call for each group, a tag load and a copy for each element.
-pub fn instructions_allowance(elements: u64, pairs: u64) -> u64
-    requires { (elements < 2 ^ 40) × (pairs < 2 ^ 40) }
-    ensures allowed { result ≡ instructions_allowance elements pairs }
-    ensures suffices { InstructionsSuffice }
-{
-    3 * pairs + 2 * elements
-}
+impl Tally {
+    // Each entry takes an identifier, and each group four more.
+    pub fn identifiers_allowance(&self) -> u128
+        ensures allowed { result ≡ identifiers_allowance self.now.attributes self.now.children self.now.pairs }
+        ensures suffices { IdentifiersSuffice }
+    {
+        self.attributes as u128 + self.children as u128 + 4 * self.pairs as u128
+    }
 
-// The lists of the functions' blocks, and the new lists of blocks.
-pub fn numbers_allowance(elements: u64, pairs: u64, listed: u64) -> u64
-    requires { (elements < 2 ^ 40) × ((pairs < 2 ^ 40) × (listed < 2 ^ 40)) }
-    ensures allowed { result ≡ numbers_allowance elements pairs listed }
-    ensures suffices { NumbersSuffice }
-{
-    pairs + 2 * elements + listed
-}
+    // A Destructure and the two rows of the call for each group, a tag load and a copy for each element.
+    pub fn instructions_allowance(&self) -> u128
+        ensures allowed { result ≡ instructions_allowance self.now.elements self.now.pairs }
+        ensures suffices { InstructionsSuffice }
+    {
+        3 * self.pairs as u128 + 2 * self.elements as u128
+    }
 
-// Four for each group, the tag of each element, and three for each attribute and child: bound, rebuilt, and passed by the call.
-pub fn places_allowance(attributes: u64, children: u64, elements: u64, pairs: u64) -> u64
-    requires { (attributes < 2 ^ 40) × ((children < 2 ^ 40) × ((elements < 2 ^ 40) × (pairs < 2 ^ 40))) }
-    ensures allowed { result ≡ places_allowance attributes children elements pairs }
-    ensures suffices { PlacesSuffice }
-{
-    4 * pairs + elements + 3 * (attributes + children)
+    // The lists of the functions' blocks, and the new lists of blocks.
+    pub fn numbers_allowance(&self) -> u128
+        ensures allowed { result ≡ numbers_allowance self.now.elements self.now.pairs self.now.listed }
+        ensures suffices { NumbersSuffice }
+    {
+        self.pairs as u128 + 2 * self.elements as u128 + self.listed as u128
+    }
+
+    // Four for each group, the tag of each element, and three for each attribute and child: bound, rebuilt, and passed by the call.
+    pub fn places_allowance(&self) -> u128
+        ensures allowed { result ≡ places_allowance self.now.attributes self.now.children self.now.elements self.now.pairs }
+        ensures suffices { PlacesSuffice }
+    {
+        let entries = self.attributes as u128 + self.children as u128;
+        4 * self.pairs as u128 + self.elements as u128 + 3 * entries
+    }
+
+    // An attribute's name with ten digits, a child's promoted name and its made one, and the three names of each group.
+    pub fn text_allowance(&self) -> u128
+        ensures allowed { result ≡ text_allowance self.now.letters self.now.attributes self.now.children self.now.pairs }
+        ensures suffices { TextSuffices }
+    {
+        let named = 10 * self.attributes as u128 + 23 * self.children as u128;
+        self.letters as u128 + named + 39 * self.pairs as u128
+    }
 }
 
 // A function for each group, with one block.
@@ -68,15 +86,6 @@ pub fn functions_allowance(groups: u64) -> u64
     ensures suffices { (FunctionsSuffice) × (BlocksSuffice) }
 {
     groups
-}
-
-// An attribute's name with ten digits, a child's promoted name and its made one, and the three names of each group.
-pub fn text_allowance(letters: u64, attributes: u64, children: u64, pairs: u64) -> u64
-    requires { (letters < 2 ^ 56) × ((attributes < 2 ^ 40) × ((children < 2 ^ 40) × (pairs < 2 ^ 40))) }
-    ensures allowed { result ≡ text_allowance letters attributes children pairs }
-    ensures suffices { TextSuffices }
-{
-    letters + 10 * attributes + 23 * children + 39 * pairs
 }
 
 // The blocks of a function that are still to be walked. With what they and the functions reached from them are allowed, what is used

@@ -1,15 +1,22 @@
--- Bytes copied one by one.
-use Rattle.std.proofs.Common.{◌≡◌, ℕ, ◌+◌, ◌<◌, ◌≤◌, List, length, get_or, take, drop, set, sym, ap, ◌∙◌, arith, length-drop, length-take, get_or-take}
+-- Bytes written into a text.
+use Rattle.std.proofs.Common.{◌≡◌, ℕ, ◌+◌, ◌-◌, ◌≤◌, List, ◌++◌, length, take, drop, sym, refl, ap, ◌∙◌, arith}
+use Rattle.std.proofs.Math.Seq.{take-length}
 use lib.Seq.{paste}
-use Rattle.std.proofs.lemmas.List.{get_or-drop}
-use Rattle.std.proofs.lemmas.List.Edits.{paste_more}
-use Rattle.hir.proofs.Runs.{getD_paste_before}
+use borrow.Rule.Slice.PartMut.{put_mid}
+use Rattle.std.proofs.lemmas.Slice.{put_mid-paste}
+use Rattle.hir.proofs.Runs.{pasted_both}
 
--- one byte more is copied
-pub copied_more : (d : List ℕ) (from len to i : ℕ) → from + len ≤ to → to + len ≤ length d → i < len
-    → set (paste d to (take len (drop from d)) i) (to + i) (get_or (paste d to (take len (drop from d)) i) (from + i) 0) ≡ paste d to (take len (drop from d)) (i + 1)
-copied_more d from len to i a b h =
-    let s : List ℕ = take len (drop from d) in
-    let size : length s ≡ len = simp (length-take, length-drop) (omega arith) in
-    ap (set (paste d to s i) (to + i)) (getD_paste_before d to s i (from + i) 0 (omega arith) (omega arith) ∙ sym (get_or-take len (drop from d) i 0 h ∙ get_or-drop from d i 0))
-    ∙ paste_more d to s i 0 (omega arith) (omega arith)
+pub copied : (at : ℕ) (text ys xs : List ℕ) → ys ≡ xs → put_mid at (at + length xs - at) text ys ≡ paste text at xs (length xs)
+copied at text ys xs e = put_mid-paste at (at + length xs - at) text ys xs (length xs) e (omega arith) refl
+
+-- a prefix, and what is written after it
+pub copied_before : (at : ℕ) (text ys xs rest new : List ℕ) → ys ≡ xs → at ≤ length text
+    → new ≡ paste (put_mid at (at + length xs - at) text ys) (at + length xs) rest (length rest) → new ≡ paste text at (xs ++ rest) (length (xs ++ rest))
+copied_before at text ys xs rest new e h written =
+    written ∙ ap (λ (l : List ℕ). paste l (at + length xs) rest (length rest)) (copied at text ys xs e) ∙ pasted_both text at (length xs) xs rest refl h
+
+-- bytes of the text itself, copied to another place
+pub moved : (text : List ℕ) (from to : ℕ) (own : List ℕ) → own ≡ take (length own) (drop from text) → paste text to (drop from text) (from + length own - from) ≡ paste text to own (length own)
+moved text from to own e =
+    let n : from + length own - from ≡ length own = omega arith in
+    simp (n, sym e, take-length own)

@@ -1,26 +1,26 @@
-ghost use Rattle.std.specs.Prelude.{◌≡◌, ℕ, ◌≤◌, length};
+ghost use Rattle.std.specs.Prelude.{◌≡◌};
 ghost use Rattle.rules.specs.Names.{is_key, same_bytes};
 ghost use Rattle.hir.specs.Tables.{tables};
 ghost use Rattle.hir.specs.View.{spelt, spelt_if, view};
-ghost use Rattle.hir.specs.WellFormed.{NameFits, NameIfFits, WellFormed};
 
-use hir::{Name, Store};
+use hir::{Name, Store, spelling};
 use ordered_table::same_bytes;
 
-// The bytes of a name.
+fn used_text<'b>(store: &'b Store<'_>) -> &'b [u8]
+    ensures { result.now ≡ (view (tables store.now)).text }
+{
+    let used = store.text.len().min(store.counts.text as usize);
+    &store.text[..used]
+}
+
+// The bytes of a name, as far as the used text goes.
 pub fn name_bytes<'b>(store: &'b Store<'_>, name: Name) -> &'b [u8]
-    requires room { store.now.counts.text ≤ length store.now.text.now }
-    requires fits { NameFits store.now.counts name }
     ensures { result.now ≡ spelt (view (tables store.now)).text name }
 {
-    let start = name.start as usize;
-    &store.text[start..start + name.len as usize]
+    spelling(used_text(store), name)
 }
 
 pub fn same_name(store: &Store<'_>, a: Name, b: Name) -> bool
-    requires room { store.now.counts.text ≤ length store.now.text.now }
-    requires first { NameFits store.now.counts a }
-    requires second { NameFits store.now.counts b }
     ensures { result ≡ same_bytes (spelt (view (tables store.now)).text a) (spelt (view (tables store.now)).text b) }
 {
     same_bytes(name_bytes(store, a), name_bytes(store, b))
@@ -28,12 +28,7 @@ pub fn same_name(store: &Store<'_>, a: Name, b: Name) -> bool
 
 // Is it the attribute that is not passed on?
 pub fn is_key(store: &Store<'_>, name: Option<Name>) -> bool
-    requires room { store.now.counts.text ≤ length store.now.text.now }
-    requires fits { NameIfFits store.now.counts name }
     ensures { result ≡ is_key (spelt_if (view (tables store.now)).text name) }
 {
-    match name {
-        Some(name) => same_bytes(name_bytes(store, name), b"key"),
-        None => false,
-    }
+    matches!(name, Some(name) if same_bytes(name_bytes(store, name), b"key"))
 }

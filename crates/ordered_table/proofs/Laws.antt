@@ -4,8 +4,8 @@ use Rattle.std.proofs.lemmas.List.{append-nil, append_assoc, map_push}
 use Rattle.std.proofs.lemmas.Bool.{both_ways, cases_Bool, cases_lt, or_parts, or_from}
 use Rattle.rules.specs.Lists.{any}
 use Rattle.ordered_table.specs.declared.Entry.{Entry}
-use Rattle.ordered_table.specs.Entries.{place, put, look, keys, among, put_all, firsts, given_last, Distinct, StaysDistinct, Ordered}
-use Rattle.ordered_table.proofs.Places.{there, missing}
+use Rattle.ordered_table.specs.Entries.{put, look, keys, among, put_all, firsts, given_last, Distinct, StaysDistinct, Ordered}
+use Rattle.ordered_table.proofs.Places.{place, there, missing}
 
 -- a test that fails on each of these and on one more fails on all
 any_push : {A : Type 0} (p : A → Bool) (xs : List A) (x : A) → any p xs ≡ false → p x ≡ false → any p (xs ++ (x ∷ [])) ≡ false
@@ -21,7 +21,7 @@ distinct_push e (q ∷ ks) k h n =
 module _ {K V : Type 0} (e : K → K → Bool) where
   -- a key that is there adds none, a new one goes to the end
   pub keys_put : (xs : List (Entry K V)) (k : K) (v : V) → keys (put e xs k v) ≡ cond (among e (keys xs) k) (keys xs) (keys xs ++ (k ∷ []))
-  keys_put xs k v = elim (cases_lt (place e xs k) (length xs)) [
+  keys_put xs k v = elim (cases_lt (place e k xs) (length xs)) [
     | inl h ↦ let w = there e k xs h in simp w.listed (w.same_keys v)
     | inr h ↦ let w = missing e k xs h in simp w.listed (ap keys (w.puts v) ∙ map_push (λ x. x.key) xs (record { key = k; value = v }))
   ]

@@ -1,5 +1,5 @@
 -- Lists of entries. `e` tells whether two keys are the same.
-use Rattle.std.specs.Prelude.{◌≡◌, ℕ, suc, Bool, false, cond, List, [], ◌∷◌, ◌++◌, map, Some, None, Option}
+use Rattle.std.specs.Prelude.{◌≡◌, Bool, false, cond, List, [], ◌∷◌, ◌++◌, map, Some, None, Option}
 use Rattle.rules.specs.Lists.{any}
 use Rattle.ordered_table.specs.declared.Entry.{Entry}
 
@@ -20,11 +20,6 @@ keys xs = map (λ x. x.key) xs
 -- is the key one of these?
 abbrev pub among : {K : Type 0} → (K → K → Bool) → List K → K → Bool
 among e ks k = any (λ q. e q k) ks
-
--- where the key stands: the length if it is not there
-abbrev pub place : {K V : Type 0} → (K → K → Bool) → List (Entry K V) → K → ℕ
-place e [] k = 0
-place e (x ∷ xs) k = cond (e x.key k) 0 (suc (place e xs k))
 
 -- Runs of insertions.
 

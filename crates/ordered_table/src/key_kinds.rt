@@ -1,6 +1,7 @@
 ghost use Rattle.std.specs.Prelude.{◌≡◌, ℕ, Bool, true, List};
 
-// A kind of key. Whether two keys are the same may depend on a text, which is lent to each call that compares.
+// A kind of key. Whether two keys are the same may depend on a text. It is lent to each call that compares, and not kept in the table,
+// since names are written into it between two calls.
 pub trait Key {
     ghost alike: { List ℕ → Self → Self → Bool };
 

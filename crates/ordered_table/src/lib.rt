@@ -17,7 +17,8 @@ pub struct Entry<K, V> {
     pub value: V,
 }
 
-// The first `len` of the lent entries are the table's; the others are spare.
+// The first `len` of the lent entries are the table's; the others are spare. The caller lends the memory, since the pass has no heap: so a
+// slice with a length stands here, and no map or `Vec`.
 #[derive(Drop)]
 pub struct OrderedTable<'a, K, V> {
     entries: &'a mut [Entry<K, V>],
@@ -26,5 +27,5 @@ pub struct OrderedTable<'a, K, V> {
 }
 
 // The answer to a new key when every lent entry is taken.
-#[derive(Clone, Copy)]
+#[derive(Clone, Copy, Debug, PartialEq, Eq)]
 pub struct Full;

@@ -4,11 +4,17 @@
 
 use hir::{IdentifierId, InstructionId, Name, Place};
 
-// A prop of the group: an attribute of a member, or a child that is no member. Only an attribute has an original name.
+// Where a prop comes from: an attribute of a member, by the name that it has there, or a child that is no member.
+#[derive(Clone, Copy)]
+pub enum Origin {
+    Attribute(Name),
+    Child,
+}
+
+// A prop of the group.
 #[derive(Clone, Copy)]
 pub struct OutlinedJsxAttribute {
-    pub child: bool,
-    pub original_name: Option<Name>,
+    pub origin: Origin,
     pub new_name: Name,
     pub place: Place,
 }

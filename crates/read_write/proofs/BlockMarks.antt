@@ -6,7 +6,7 @@ use Rattle.rules.specs.Views.{BlockV, FunctionV, writes, rows_of, block_rows}
 use Rattle.rules.specs.Drawn.{Ordered, OrderedBlocks}
 use Rattle.refusals.specs.Walked.{WritesSound}
 use Rattle.read_write.specs.Written.{Markable, Marked, RowsSound, RowsDone}
-use Rattle.read_write.proofs.Marks.{none, then_after, able_left, able_after, wider}
+use Rattle.read_write.proofs.Marks.{then_after, able_left, able_after, wider}
 use Rattle.rules.proofs.Membership.{gathered-++}
 
 -- the rows of the blocks before k, of block k, and of those after it
@@ -35,25 +35,22 @@ pub record BlocksDone (base k : ℕ) (bs : List BlockV) (before now : List ℕ) 
   pub marked : Marked base (base + 1) (base + k) (gathered writes (rows_of (take k bs))) before now
   pub ordered : OrderedBlocks (take k bs)
 
-pub no_blocks : (base : ℕ) (bs : List BlockV) (ms : List ℕ) → BlocksDone base 0 bs ms ms
-no_blocks base bs ms = record { marked = none base (base + 1) (base + 0) ms; ordered = tt }
-
-pub at_most : (base k : ℕ) (bs : List BlockV) (ms ns : List ℕ) → ((x : ℕ) → get_or ms x 0 ≤ base) → BlocksDone base k bs ms ns → (x : ℕ) → get_or ns x 0 ≤ base + k
-at_most base k bs ms ns low d x = elim (cases_Bool (within x (gathered writes (rows_of (take k bs))))) [
+pub at_most : {base k : ℕ} {bs : List BlockV} {ms ns : List ℕ} → ((x : ℕ) → get_or ms x 0 ≤ base) → BlocksDone base k bs ms ns → (x : ℕ) → get_or ns x 0 ≤ base + k
+at_most {base} {k} {bs} low d x = elim (cases_Bool (within x (gathered writes (rows_of (take k bs))))) [
   | inl i ↦ (d.marked.marked x i).1
   | inr o ↦ let e = d.marked.others x o in let l = low x in omega arith
 ]
 
-pub block_more : (base k : ℕ) (bs : List BlockV) (ms ns os : List ℕ) → k < length bs → BlocksDone base k bs ms ns → RowsDone base (base + k + 1) (block_rows bs k) ns os → BlocksDone base (k + 1) bs ms os
-block_more base k bs ms ns os l d r = record {
+pub block_more : {base k : ℕ} {bs : List BlockV} {ms ns os : List ℕ} → k < length bs → BlocksDone base k bs ms ns → RowsDone base (base + k + 1) (block_rows bs k) ns os → BlocksDone base (k + 1) bs ms os
+block_more {base} {k} {bs} {ms} {ns} {os} l d r = record {
   marked = subst (λ zs. Marked base (base + 1) (base + (k + 1)) zs ms os) (sym (ap (gathered writes) (rows_before bs k l) ∙ gathered-++ writes (rows_of (take k bs)) (block_rows bs k)))
       (then_after base (base + 1) (base + k) (base + (k + 1)) (omega arith) (omega arith) (gathered writes (rows_of (take k bs))) (gathered writes (block_rows bs k)) ms ns os d.marked
       (wider base (base + k + 1) (base + 1) (base + k + 1) (base + (k + 1)) (gathered writes (block_rows bs k)) ns os (omega arith) (omega arith) r.marked));
   ordered = ordered_more bs k l d.ordered r.ordered;
 }
 
-pub block_refused : (base k : ℕ) (g : FunctionV) (ms ns : List ℕ) → k < length g.blocks → ((x : ℕ) → get_or ms x 0 ≤ base) → BlocksDone base k g.blocks ms ns → (RowsSound base (block_rows g.blocks k) ns → ⊥) → WritesSound g → ⊥
-block_refused base k g ms ns l low d u w =
+pub block_refused : {base k : ℕ} (g : FunctionV) {ms ns : List ℕ} → k < length g.blocks → ((x : ℕ) → get_or ms x 0 ≤ base) → BlocksDone base k g.blocks ms ns → (RowsSound base (block_rows g.blocks k) ns → ⊥) → WritesSound g → ⊥
+block_refused {base} {k} g {ms} {ns} l low d u w =
     let bs = g.blocks in
     let before = gathered writes (rows_of (take k bs)) in
     let here = gathered writes (block_rows bs k) in
@@ -62,7 +59,7 @@ block_refused base k g ms ns l low d u w =
     let m : Markable base (before ++ (here ++ after)) ms = subst (λ zs. Markable base zs ms) e (record { once = w.once; free = λ x i. low x }) in
     u (record { able = able_left base here after ns (able_after base (base + 1) (base + k) before (here ++ after) ms ns d.marked m); ordered = ordered_at bs k l w.ordered })
 
-pub all_blocks_done : (base k : ℕ) (g : FunctionV) (ms ns : List ℕ) → length g.blocks ≤ k → BlocksDone base k g.blocks ms ns → WritesSound g
-all_blocks_done base k g ms ns l d =
+pub all_blocks_done : {base k : ℕ} (g : FunctionV) {ms ns : List ℕ} → length g.blocks ≤ k → BlocksDone base k g.blocks ms ns → WritesSound g
+all_blocks_done {k = k} g l d =
     let e = take_all k g.blocks l in
     record { once = subst (λ bs. Distinct (gathered writes (rows_of bs))) e d.marked.able.once; ordered = subst OrderedBlocks e d.ordered }

@@ -1,22 +1,14 @@
 -- Identifiers marked one after another.
-use Rattle.std.proofs.Common.{◌≡◌, ℕ, ◌<◌, ◌≤◌, false, ◌⊎◌, List, [], ◌∷◌, ◌++◌, length, get_or, set, sym, refl, ◌∙◌, subst, inl, inr, arith, get_or-set_other, get_or-set_same}
+use Rattle.std.proofs.Common.{◌≡◌, ℕ, ◌<◌, ◌≤◌, false, ◌⊎◌, List, [], ◌++◌, get_or, refl, ◌∙◌, inl, inr, arith}
 use Rattle.std.proofs.lemmas.Bool.{both_ways, cases_Bool}
 use Rattle.rules.specs.Lists.{within}
-use Rattle.rules.proofs.Membership.{In, Out, in_out, in_cases, in_left, in_right, in_head, out_if, out_parts, distinct_left, distinct_right, distinct_apart}
-use Rattle.refusals.proofs.Distinct.{distinct_join, alone}
+use Rattle.rules.proofs.Membership.{In, Out, in_out, in_cases, in_left, in_right, out_if, out_parts, distinct_left, distinct_right, distinct_apart}
+use Rattle.refusals.proofs.Distinct.{distinct_join}
 use Rattle.read_write.specs.Written.{Markable, Marked}
 
 -- nothing is marked
 pub none : (base low turn : ℕ) (ms : List ℕ) → Marked base low turn [] ms ms
 none base low turn ms = record { able = record { once = tt; free = λ x i. absurd (both_ways false refl i) }; marked = λ x i. absurd (both_ways false refl i); others = λ x o. refl }
-
--- one identifier
-pub one : (base turn x : ℕ) (ms : List ℕ) → x < length ms → get_or ms x 0 ≤ base → Marked base turn turn (x ∷ []) ms (set ms x turn)
-one base turn x ms l h = record {
-  able = record { once = (refl, tt); free = λ y i. subst (λ z. get_or ms z 0 ≤ base) (sym (alone y x i)) h };
-  marked = λ y i. subst (λ z. (turn ≤ get_or (set ms x turn) z 0) × (get_or (set ms x turn) z 0 ≤ turn)) (sym (alone y x i)) (let e = get_or-set_same ms x turn 0 l in (omega arith, omega arith));
-  others = λ y o. get_or-set_other ms x y turn 0 (λ e. in_out y (x ∷ []) (subst (λ z. In z (x ∷ [])) (sym e) (in_head x [])) o);
-}
 
 -- Some, and then others; the later ones stand before or after them.
 module _ (base low turn turn' : ℕ) (above : base < low) (later : turn ≤ turn') (ws vs ms ns os : List ℕ) (p : Marked base low turn ws ms ns) (q : Marked base low turn' vs ns os) where

@@ -3,5 +3,6 @@
 
 mod places;
 mod rows;
+mod turn;
 
 pub use rows::function_sound;

@@ -1,82 +1,58 @@
 ghost use Rattle.std.specs.Prelude.{ℕ, ◌+◌, ◌^◌, ◌<◌, ◌≤◌, length, MatchBool, slice_index};
-ghost use Rattle.std.specs.List.{AllByRecursion};
-ghost use Rattle.rules.specs.Views.{function_at};
 ghost use Rattle.hir.specs.Tables.{tables};
-ghost use Rattle.hir.specs.View.{instruction_at, instructions_at, rows, view};
-ghost use Rattle.hir.specs.WellFormed.{Readable, WellFormed};
+ghost use Rattle.hir.specs.View.{instruction_at, rows};
+ghost use Rattle.reading.specs.Stored.{function_seen, rows_in};
 ghost use Rattle.refusals.specs.Walked.{WritesSound};
 ghost use Rattle.read_write.specs.Written.{RowDone, RowSound, RowsDone, RowsSound};
 
-use super::places::{mark, mark_places, reads_in_time};
-use hir::{FunctionId, InstructionId, Store};
-use listed_rows::listed_row;
-use reading::{block_list, row_places};
+use super::turn::Turn;
+use kinds::ValueKind;
+use reading::{RowList, StoredFunction};
 
 // No mark is above `base` at first; then those of the function are, by less than 2^32.
-pub fn function_sound(store: &Store<'_>, function: FunctionId, base: u64, marks: &mut [u64]) -> bool
-    requires well { WellFormed (tables store.now) }
-    requires used { function.0 < store.now.counts.functions }
-    requires within { store.now.counts.identifiers ≤ length marks.old }
-    requires low { (base < 2 ^ 60) × (((x : ℕ) → slice_index marks.old x ≤ base)) }
-    ensures { MatchBool result (WritesSound (function_at (view (tables store.now)) function.0) × ((x : ℕ) → slice_index marks.new x < base + 2 ^ 32)) (WritesSound (function_at (view (tables store.now)) function.0) → ⊥) }
+pub fn function_sound(function: StoredFunction<'_, '_>, base: u64, marks: &mut [u64]) -> bool
+    requires within { function.store.now.counts.identifiers ≤ length marks.old }
+    requires small { base < 2 ^ 60 }
+    requires low { (x : ℕ) → slice_index marks.old x ≤ base }
+    ensures { MatchBool result (WritesSound (function_seen function.entry) × ((x : ℕ) → slice_index marks.new x < base + 2 ^ 32)) (WritesSound (function_seen function.entry) → ⊥) }
 {
-    let count = store.functions[function.0 as usize].blocks.count;
-    for k in 0..count {
-        if !list_sound(
-            store,
-            block_list(store, function, k),
+    for k in 0..function.row().blocks.count {
+        let turn = Turn {
             base,
-            base + k as u64 + 1,
-            marks,
-        ) {
+            own: base + k as u64 + 1,
+        };
+        if !turn.list_sound(function.list(k), marks) {
             return false;
         }
     }
     true
 }
 
-fn list_sound(store: &Store<'_>, list: &[u32], base: u64, turn: u64, marks: &mut [u64]) -> bool
-    requires readable { Readable (tables store.now) }
-    requires listed { AllByRecursion (λ n. n < store.now.counts.instructions) list.now }
-    requires within { store.now.counts.identifiers ≤ length marks.old }
-    requires above { (base < turn) × (((x : ℕ) → slice_index marks.old x < turn)) }
-    ensures { MatchBool result (RowsDone base turn (instructions_at (rows (tables store.now)) list.now) marks.old marks.new) (RowsSound base (instructions_at (rows (tables store.now)) list.now) marks.old → ⊥) }
-{
-    let mut j = list.len();
-    while j > 0 {
-        j -= 1;
-        if !row_sound(store, list, j, base, turn, marks) {
+impl Turn {
+    // From the last row to the first: what is written at or after a row has the mark by the time its reads are looked at.
+    fn list_sound(self, list: RowList<'_, '_>, marks: &mut [u64]) -> bool
+        requires within { list.store.now.counts.identifiers ≤ length marks.old }
+        requires low { (x : ℕ) → slice_index marks.old x < self.own }
+        ensures { MatchBool result (RowsDone self.base self.own (rows_in list.entry) marks.old marks.new) (RowsSound self.base (rows_in list.entry) marks.old → ⊥) }
+    {
+        for number in list.numbers.iter().rev() {
+            if !self.row_sound(list, *number, marks) {
+                return false;
+            }
+        }
+        true
+    }
+
+    fn row_sound(self, list: RowList<'_, '_>, number: u32, marks: &mut [u64]) -> bool
+        requires listed { number < list.store.now.counts.instructions }
+        requires within { list.store.now.counts.identifiers ≤ length marks.old }
+        ensures { MatchBool result (RowDone self.base self.own (instruction_at (rows (tables list.entry.store.now)) number) marks.old marks.new) (RowSound self.base self.own (instruction_at (rows (tables list.entry.store.now)) number) marks.old → ⊥) }
+    {
+        let row = list.row(number);
+        let places = list.places(number);
+        if !self.mark(row.result.identifier, marks) || !self.mark_places(places, marks) {
             return false;
         }
+        row.has_kind(ValueKind::Phi) || self.reads_in_time(places, marks)
     }
-    true
-}
-
-fn row_sound(
-    store: &Store<'_>,
-    list: &[u32],
-    j: usize,
-    base: u64,
-    turn: u64,
-    marks: &mut [u64],
-) -> bool
-    requires readable { Readable (tables store.now) }
-    requires listed { AllByRecursion (λ n. n < store.now.counts.instructions) list.now }
-    requires position { j < length list.now }
-    requires within { store.now.counts.identifiers ≤ length marks.old }
-    requires above { base < turn }
-    ensures { MatchBool result (RowDone base turn (instruction_at (rows (tables store.now)) (slice_index list.now j)) marks.old marks.new) (RowSound base turn (instruction_at (rows (tables store.now)) (slice_index list.now j)) marks.old → ⊥) }
-{
-    let row = listed_row(store, list, j);
-    let places = row_places(store, InstructionId(list[j]));
-    if !mark(row.result.identifier, base, turn, marks) {
-        return false;
-    }
-    if !mark_places(places, base, turn, marks) {
-        return false;
-    }
-    if row.kind == 0 {
-        return true;
-    }
-    reads_in_time(places, turn, marks)
 }

@@ -2,4 +2,4 @@ pub mod Tests
 pub mod Distinct
 pub mod Well
 pub mod Blocks
-pub mod Mapped
+pub mod Chains

@@ -2,6 +2,7 @@
 //! of good screens was written by a program that holds the original pass; of bad ones, by hand.
 #![tactic(auto)]
 
+use anyhow::Context;
 use comma_lines::read;
 use screen_text::dump;
 use std::alloc::{AllocError, Global};
@@ -23,18 +24,13 @@ fn run(rt: &HostRuntime) -> anyhow::Result<()> {
 }
 
 fn answer(heap: Global, lines: &str) -> Result<Vec<u8>, AllocError> {
-    let mut screen = match read(heap, lines) {
-        Ok(screen) => screen,
-        Err(error) => return line(heap, error),
-    };
-    let Some(counts) = screen.counts() else {
-        return Vec::from_slice(heap, b"too large\n");
-    };
-    let text = dump(heap, &screen.lend(counts));
-    match text {
-        Ok(text) => Ok(text),
-        Err(error) => line(heap, error),
-    }
+    dump_of(heap, lines).or_else(|error| line(heap, error))
+}
+
+fn dump_of(heap: Global, lines: &str) -> anyhow::Result<Vec<u8>> {
+    let mut screen = read(heap, lines)?;
+    let counts = screen.counts().context("too large")?;
+    Ok(dump(heap, &screen.lend(counts))?)
 }
 
 fn line(heap: Global, message: impl fmt::Display + Drop) -> Result<Vec<u8>, AllocError> {

@@ -1,224 +1,117 @@
 use super::print_error::PrintError;
-use hir::{
-    BasicBlock, FunctionId, HirFunction, Identifier, IdentifierId, IdentifierName, Instruction,
-    InstructionId, Name, Place, Run, Store,
-};
+use super::printer::Printer;
+use hir::{BasicBlock, Identifier, IdentifierId, IdentifierName, Instruction, Place, Run, Store};
 use std::alloc::Global;
 use std::io::Write;
 
 // The canonical dump: every function with its blocks and their rows, then every identifier. It shows nothing of
 // which spare row took what, so that two passes over one screen can be compared byte by byte.
 pub fn dump(heap: Global, store: &Store<'_>) -> Result<Vec<u8>, PrintError> {
-    let mut out = Vec::new(heap);
-    for n in 0..store.counts.functions {
-        let Some(function) = store.function(FunctionId(n)) else {
-            return Err(PrintError::Unused {
-                what: "function",
-                number: n,
-            });
-        };
-        dump_function(&mut out, store, n, function)?;
+    let mut printer = Printer::new(heap, store);
+    for number in 0..store.counts.functions {
+        printer.dump_function(number)?;
     }
-    for n in 0..store.counts.identifiers {
-        let Some(identifier) = store.identifier(IdentifierId(n)) else {
-            return Err(PrintError::Unused {
-                what: "identifier",
-                number: n,
-            });
-        };
-        dump_identifier(&mut out, store, n, identifier)?;
+    for number in 0..store.counts.identifiers {
+        printer.dump_identifier(number)?;
     }
-    Ok(out)
+    Ok(printer.out)
 }
 
-fn dump_function(
-    out: &mut Vec<u8>,
-    store: &Store<'_>,
-    n: u32,
-    function: &HirFunction,
-) -> Result<(), PrintError> {
-    write!(out, "function {n} type={} tag=", function.fn_type)?;
-    put_name(out, store, function.tag)?;
-    write!(out, " appended={} params=", function.appended as u8)?;
-    put_places(out, store, function.params)?;
-    write!(out, " context=")?;
-    put_places(out, store, function.context)?;
-    write!(out, " returns=")?;
-    put_place(out, store, &function.returns)?;
-    writeln!(out)?;
-    let Some(blocks) = store.blocks_of(function.blocks) else {
-        return Err(PrintError::Unused {
-            what: "a block of function",
-            number: n,
-        });
-    };
-    for (k, block) in blocks.iter().enumerate() {
-        dump_block(out, store, k, block)?;
-    }
-    Ok(())
-}
-
-fn dump_block(
-    out: &mut Vec<u8>,
-    store: &Store<'_>,
-    k: usize,
-    block: &BasicBlock,
-) -> Result<(), PrintError> {
-    write!(
-        out,
-        "block {k} kind={} terminal={} detail={} tplaces=",
-        block.kind, block.terminal, block.detail
-    )?;
-    put_places(out, store, block.places)?;
-    write!(out, " preds=[")?;
-    put_numbers(out, store, block.preds)?;
-    writeln!(out, "]")?;
-    let Some(list) = store.numbers_of(block.instructions) else {
-        return Err(PrintError::Unused {
-            what: "list number",
-            number: block.instructions.first,
-        });
-    };
-    for number in list {
-        let Some(row) = store.instruction(InstructionId(*number)) else {
-            return Err(PrintError::Unused {
-                what: "row",
-                number: *number,
-            });
-        };
-        dump_row(out, store, row)?;
-    }
-    Ok(())
-}
-
-fn dump_row(out: &mut Vec<u8>, store: &Store<'_>, row: &Instruction) -> Result<(), PrintError> {
-    write!(out, "row order={} kind={} result=", row.order, row.kind)?;
-    put_place(out, store, &row.result)?;
-    write!(out, " name=")?;
-    put_name(out, store, row.name)?;
-    write!(
-        out,
-        " detail={} function={} places=[",
-        row.detail, row.function.0
-    )?;
-    put_read_first(out, store, row.places)?;
-    writeln!(
-        out,
-        "] span={} opening={} closing={} effects={}",
-        row.span, row.opening, row.closing, row.effects
-    )?;
-    Ok(())
-}
-
-fn dump_identifier(
-    out: &mut Vec<u8>,
-    store: &Store<'_>,
-    n: u32,
-    identifier: &Identifier,
-) -> Result<(), PrintError> {
-    let (kind, name) = match identifier.name {
-        None => (0, None),
-        Some(IdentifierName::Named(name)) => (1, Some(name)),
-        Some(IdentifierName::Promoted(name)) => (2, Some(name)),
-    };
-    write!(out, "identifier {n} {} {kind} ", identifier.declaration)?;
-    put_name(out, store, name)?;
-    writeln!(out)?;
-    Ok(())
-}
-
-// The bytes of a name; nothing where there is none.
-pub fn put_name(
-    out: &mut Vec<u8>,
-    store: &Store<'_>,
-    name: Option<Name>,
-) -> Result<(), PrintError> {
-    let Some(name) = name else {
-        return Ok(());
-    };
-    let Some(bytes) = store.bytes_of(name) else {
-        return Err(PrintError::Unused {
-            what: "text byte",
-            number: name.start,
-        });
-    };
-    out.write_all(bytes)?;
-    Ok(())
-}
-
-fn put_place(out: &mut Vec<u8>, store: &Store<'_>, place: &Place) -> Result<(), PrintError> {
-    write!(out, "{}:", place.role)?;
-    put_name(out, store, place.name)?;
-    write!(
-        out,
-        ":{}:{}:{}:{}",
-        place.identifier.0, place.effect, place.reactive as u8, place.span
-    )?;
-    Ok(())
-}
-
-fn put_places(out: &mut Vec<u8>, store: &Store<'_>, run: Run) -> Result<(), PrintError> {
-    write!(out, "[")?;
-    for (k, place) in places_of(store, run)?.iter().enumerate() {
-        if k > 0 {
-            write!(out, " ")?;
+impl Printer<'_> {
+    fn dump_function(&mut self, number: u32) -> Result<(), PrintError> {
+        let function = self.function(number)?;
+        write!(self.out, "function {number} type={} tag=", function.fn_type)?;
+        self.put_name(function.tag)?;
+        write!(self.out, " appended={} params=[", function.appended as u8)?;
+        self.dump_places(function.params)?;
+        write!(self.out, "] context=[")?;
+        self.dump_places(function.context)?;
+        write!(self.out, "] returns=")?;
+        self.dump_place(&function.returns)?;
+        writeln!(self.out)?;
+        for (k, block) in self.blocks(number, function.blocks)?.iter().enumerate() {
+            self.dump_block(k, block)?;
         }
-        put_place(out, store, place)?;
+        Ok(())
     }
-    write!(out, "]")?;
-    Ok(())
-}
 
-// The places that a row reads, and then those that it writes, each in their order.
-fn put_read_first(out: &mut Vec<u8>, store: &Store<'_>, run: Run) -> Result<(), PrintError> {
-    let places = places_of(store, run)?;
-    let more = put_where(out, store, places, true, false)?;
-    put_where(out, store, places, false, more)?;
-    Ok(())
-}
-
-// The places that are read, or those that are not; answers whether any place has been put so far.
-fn put_where(
-    out: &mut Vec<u8>,
-    store: &Store<'_>,
-    places: &[Place],
-    read: bool,
-    mut any: bool,
-) -> Result<bool, PrintError> {
-    for place in places {
-        if (place.role <= 4) == read {
-            if any {
-                write!(out, " ")?;
-            }
-            put_place(out, store, place)?;
-            any = true;
+    fn dump_block(&mut self, k: usize, block: &BasicBlock) -> Result<(), PrintError> {
+        write!(
+            self.out,
+            "block {k} kind={} terminal={} detail={} tplaces=[",
+            block.kind, block.terminal, block.detail
+        )?;
+        self.dump_places(block.places)?;
+        write!(self.out, "] preds=[")?;
+        self.put_list(self.numbers(block.preds)?.iter(), " ", Printer::dump_number)?;
+        writeln!(self.out, "]")?;
+        for number in self.numbers(block.instructions)? {
+            self.dump_row(self.row(*number)?)?;
         }
+        Ok(())
     }
-    Ok(any)
-}
 
-pub fn places_of<'s>(store: &'s Store<'_>, run: Run) -> Result<&'s [Place], PrintError> {
-    match store.places_of(run) {
-        Some(places) => Ok(places),
-        None => Err(PrintError::Unused {
-            what: "place",
-            number: run.first,
-        }),
+    // The places that the row reads come first, and then those that it writes, each in their order.
+    fn dump_row(&mut self, row: &Instruction) -> Result<(), PrintError> {
+        write!(
+            self.out,
+            "row order={} kind={} result=",
+            row.order, row.kind
+        )?;
+        self.dump_place(&row.result)?;
+        write!(self.out, " name=")?;
+        self.put_name(row.name)?;
+        write!(
+            self.out,
+            " detail={} function={} places=[",
+            row.detail, row.function.0
+        )?;
+        let places = self.places(row.places)?;
+        let reads = places.iter().filter(|place| place.is_read());
+        let writes = places.iter().filter(|place| !place.is_read());
+        self.put_list(reads.chain(writes), " ", Printer::dump_place)?;
+        writeln!(
+            self.out,
+            "] span={} opening={} closing={} effects={}",
+            row.span, row.opening, row.closing, row.effects
+        )?;
+        Ok(())
     }
-}
 
-fn put_numbers(out: &mut Vec<u8>, store: &Store<'_>, run: Run) -> Result<(), PrintError> {
-    let Some(numbers) = store.numbers_of(run) else {
-        return Err(PrintError::Unused {
-            what: "list number",
-            number: run.first,
-        });
-    };
-    for (k, number) in numbers.iter().enumerate() {
-        if k > 0 {
-            write!(out, " ")?;
-        }
-        write!(out, "{number}")?;
+    fn dump_identifier(&mut self, number: u32) -> Result<(), PrintError> {
+        let identifier = self.identifier(IdentifierId(number))?;
+        let kind = match identifier.name {
+            None => 0,
+            Some(IdentifierName::Named(_)) => 1,
+            Some(IdentifierName::Promoted(_)) => 2,
+        };
+        write!(
+            self.out,
+            "identifier {number} {} {kind} ",
+            identifier.declaration
+        )?;
+        self.put_name(identifier.given_name())?;
+        writeln!(self.out)?;
+        Ok(())
     }
-    Ok(())
+
+    fn dump_places(&mut self, run: Run) -> Result<(), PrintError> {
+        self.put_list(self.places(run)?.iter(), " ", Printer::dump_place)
+    }
+
+    fn dump_number(&mut self, number: &u32) -> Result<(), PrintError> {
+        write!(self.out, "{number}")?;
+        Ok(())
+    }
+
+    fn dump_place(&mut self, place: &Place) -> Result<(), PrintError> {
+        write!(self.out, "{}:", place.role)?;
+        self.put_name(place.name)?;
+        write!(
+            self.out,
+            ":{}:{}:{}:{}",
+            place.identifier.0, place.effect, place.reactive as u8, place.span
+        )?;
+        Ok(())
+    }
 }

@@ -2,9 +2,10 @@
 #![tactic(auto)]
 
 mod dumping;
+mod named;
 mod print_error;
+mod printer;
 mod showing;
-mod words;
 
 pub use dumping::dump;
 pub use print_error::PrintError;

@@ -4,14 +4,14 @@ ghost use Rattle.rules.specs.Views.{with_functions};
 ghost use Rattle.rules.specs.Props.{fresh};
 ghost use Rattle.hir.specs.Tables.{tables, with_function, with_identifier, with_instruction, with_numbers, with_places, Held};
 ghost use Rattle.hir.specs.View.{function_view, instruction_view, name_view, rows, view, with_row_taken};
-ghost use Rattle.hir.specs.WellFormed.{functions_limit, identifiers_limit, instructions_limit, numbers_limit, places_limit, IdentifierNameFits, InstructionFits, PlaceFits, Room, WellFormed};
+ghost use Rattle.hir.specs.WellFormed.{functions_limit, identifiers_limit, instructions_limit, numbers_limit, places_limit, IdentifierNameFits, InstructionFits, PlaceFits, Room};
 ghost use Rattle.hir.specs.Lists.{FunctionFitsIn};
 ghost use Rattle.hir.specs.Tags.{one_appended, with_tag_name};
 ghost use Rattle.hir.specs.Frame.{Becomes};
 
 use hir::{
-    FunctionId, HirFunction, Identifier, IdentifierId, IdentifierName, Instruction, InstructionId,
-    Place, Report, Run, Store, Tag,
+    FormedStore, FunctionId, HirFunction, Identifier, IdentifierId, IdentifierName, Instruction,
+    InstructionId, Place, Report, Run, Store, Tag, write_rows,
 };
 
 // Each append has a part that only writes, and asks for room alone.
@@ -23,25 +23,22 @@ fn write_places(store: &mut Store<'_>, places: &[Place]) -> Run
     ensures held { Held store.new store.old }
 {
     let run = store.counts.take_places(places.len() as u32);
-    let at = run.first as usize;
-    store.places[at..at + places.len()].copy_from_slice(places);
+    write_rows(store.places, run.first, places);
     run
 }
 
 // Places, as one run. Nothing that was seen changes.
-pub fn append_places(store: &mut Store<'_>, places: &[Place]) -> Run
-    requires well { WellFormed (tables store.old) }
+pub fn append_places(store: &mut FormedStore<'_>, places: &[Place]) -> Run
     requires room { Room store.old.counts.places (length places.now) (length store.old.places.now) places_limit }
     requires fits { AllByRecursion (PlaceFits store.old.counts) places.now }
     ensures at { result ≡ record { first = store.old.counts.places; count = length places.now } }
     ensures does { Becomes store.old store.new (with_places (tables store.old) places.now) (view (tables store.old)) }
 {
-    write_places(store, places)
+    write_places(&mut store.lent, places)
 }
 
 // One place.
-pub fn append_place(store: &mut Store<'_>, place: Place) -> u32
-    requires well { WellFormed (tables store.old) }
+pub fn append_place(store: &mut FormedStore<'_>, place: Place) -> u32
     requires room { Room store.old.counts.places 1 (length store.old.places.now) places_limit }
     requires fits { PlaceFits store.old.counts place }
     ensures at { result ≡ store.old.counts.places }
@@ -62,14 +59,13 @@ fn write_instruction(store: &mut Store<'_>, instruction: Instruction) -> Instruc
 }
 
 // A row, which no block lists yet. It is counted, and bears its name if it loads or stores a global.
-pub fn append_instruction(store: &mut Store<'_>, instruction: Instruction) -> InstructionId
-    requires well { WellFormed (tables store.old) }
+pub fn append_instruction(store: &mut FormedStore<'_>, instruction: Instruction) -> InstructionId
     requires room { Room store.old.counts.instructions 1 (length store.old.instructions.now) instructions_limit }
     requires fits { InstructionFits store.old.counts instruction }
     ensures at { result.0 ≡ store.old.counts.instructions }
     ensures does { Becomes store.old store.new (with_instruction (tables store.old) instruction) (with_row_taken (view (tables store.old)) (instruction_view (rows (tables store.old)) instruction)) }
 {
-    write_instruction(store, instruction)
+    write_instruction(&mut store.lent, instruction)
 }
 
 pub(super) fn write_numbers(store: &mut Store<'_>, numbers: &[u32]) -> Run
@@ -79,20 +75,17 @@ pub(super) fn write_numbers(store: &mut Store<'_>, numbers: &[u32]) -> Run
     ensures held { Held store.new store.old }
 {
     let run = store.counts.take_numbers(numbers.len() as u32);
-    let at = run.first as usize;
-    let end = at + numbers.len();
-    store.numbers[at..end].copy_from_slice(numbers);
+    write_rows(store.numbers, run.first, numbers);
     run
 }
 
 // Numbers for the list table, as one run. They mean nothing until a block has the run.
-pub fn append_numbers(store: &mut Store<'_>, numbers: &[u32]) -> Run
-    requires well { WellFormed (tables store.old) }
+pub fn append_numbers(store: &mut FormedStore<'_>, numbers: &[u32]) -> Run
     requires room { Room store.old.counts.numbers (length numbers.now) (length store.old.numbers.now) numbers_limit }
     ensures at { result ≡ record { first = store.old.counts.numbers; count = length numbers.now } }
     ensures does { Becomes store.old store.new (with_numbers (tables store.old) numbers.now) (view (tables store.old)) }
 {
-    write_numbers(store, numbers)
+    write_numbers(&mut store.lent, numbers)
 }
 
 fn write_identifier(store: &mut Store<'_>, identifier: Identifier) -> IdentifierId
@@ -107,16 +100,15 @@ fn write_identifier(store: &mut Store<'_>, identifier: Identifier) -> Identifier
 }
 
 // A fresh identifier (the Rust's `next_identifier_id`): its declaration number is its own.
-pub fn fresh_identifier(store: &mut Store<'_>, name: Option<IdentifierName>) -> IdentifierId
-    requires well { WellFormed (tables store.old) }
+pub fn fresh_identifier(store: &mut FormedStore<'_>, name: Option<IdentifierName>) -> IdentifierId
     requires room { Room store.old.counts.identifiers 1 (length store.old.identifiers.now) identifiers_limit }
     requires fits { IdentifierNameFits store.old.counts name }
     ensures at { result.0 ≡ store.old.counts.identifiers }
     ensures numbered { result.0 ≡ length (view (tables store.old)).identifiers }
     ensures does { Becomes store.old store.new (with_identifier (tables store.old) (record { declaration = store.old.counts.identifiers; name = name })) (fresh (view (tables store.old)) (name_view (view (tables store.old)).text name)) }
 {
-    let declaration = store.counts.identifiers;
-    write_identifier(store, Identifier { declaration, name })
+    let declaration = store.lent.counts.identifiers;
+    write_identifier(&mut store.lent, Identifier { declaration, name })
 }
 
 fn write_function(store: &mut Store<'_>, function: HirFunction) -> FunctionId
@@ -132,12 +124,11 @@ fn write_function(store: &mut Store<'_>, function: HirFunction) -> FunctionId
 
 // A function (the Rust's `outline_function`): the tag is put on it, and it is seen after those that were there.
 pub fn append_function(
-    store: &mut Store<'_>,
+    store: &mut FormedStore<'_>,
     function: HirFunction,
     tag: Tag,
     report: &mut Report,
 ) -> FunctionId
-    requires well { WellFormed (tables store.old) }
     requires room { Room store.old.counts.functions 1 (length store.old.functions.now) functions_limit }
     requires fits { FunctionFitsIn (tables store.old) (with_tag_name function tag.name) }
     requires reported { report.old.functions < 2 ^ 32 - 1 }
@@ -146,5 +137,5 @@ pub fn append_function(
     ensures does { Becomes store.old store.new (with_function (tables store.old) (with_tag_name function tag.name)) (with_functions (view (tables store.old)) ((view (tables store.old)).functions ++ (function_view (rows (tables store.old)) (with_tag_name function tag.name) ∷ []))) }
 {
     let borne = tag.put_on(function, report);
-    write_function(store, borne)
+    write_function(&mut store.lent, borne)
 }

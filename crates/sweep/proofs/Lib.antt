@@ -1,4 +1,5 @@
 pub mod Marking
+pub mod Steps
 pub mod Settling
 pub mod Reading
 pub mod Thinning

@@ -1,11 +1,10 @@
 -- Marks: one more, several more, and how many are left.
-use Rattle.std.proofs.Common.{◌≡◌, ℕ, zero, suc, ◌+◌, ◌<◌, ◌≤◌, Bool, true, false, not, ◌||◌, eqb, leb, List, [], ◌∷◌, length, get_or, drop, set, sym, refl, ap, ◌∙◌, arith, length-set}
-use Rattle.std.proofs.lemmas.Bool.{eq-eqb, ne_eqb, le-leb, lt-leb}
-use Rattle.std.proofs.lemmas.List.{at_drop_more}
+use Rattle.std.proofs.Common.{◌≡◌, ℕ, zero, suc, ◌+◌, ◌<◌, ◌≤◌, true, false, not, ◌&&◌, ◌||◌, eqb, leb, List, [], ◌∷◌, ◌++◌, length, get_or, set, sym, refl, ap, ◌∙◌, arith, length-set}
+use Rattle.std.specs.List.{list_any}
+use Rattle.std.proofs.lemmas.Bool.{eq-eqb, ne_eqb}
 use Rattle.rules.specs.Lists.{any, select}
 use Rattle.rules.proofs.Steps.{pick_true, pick_false}
 use Rattle.hir.specs.declared.rows.Place.{Place}
-use Rattle.hir.specs.View.{null_place}
 use Rattle.sweep.specs.Marks.{is_marked, unmarked_one, unmarked, with_mark, with_marks, ids, ids_read, ids_written}
 
 -- one more
@@ -35,53 +34,37 @@ pub with_marks_long : (marks xs : List ℕ) → length (with_marks marks xs) ≡
 with_marks_long marks [] = refl
 with_marks_long marks (x ∷ xs) = with_marks_long (with_mark marks x) xs ∙ with_mark_long marks x
 
--- the loops over places: what is left to do
-abbrev pub all_left : List ℕ → List Place → List ℕ
-all_left marks ps = with_marks marks (ids ps)
+-- The loops over places: one place more.
 
-pub all_more : (marks : List ℕ) (ps : List Place) (i : ℕ) → i < length ps → all_left marks (drop i ps) ≡ all_left (with_mark marks (get_or ps i null_place).identifier.0) (drop (i + 1) ps)
-all_more marks ps i h = at_drop_more (all_left marks) ps i null_place h
+pub all_more : (marks : List ℕ) (ps : List Place) (p : Place) → with_marks marks (ids (ps ++ p ∷ [])) ≡ with_mark (with_marks marks (ids ps)) p.identifier.0
+all_more marks [] p = refl
+all_more marks (q ∷ ps) p = all_more (with_mark marks q.identifier.0) ps p
 
-abbrev pub reads_left : List ℕ → List Place → List ℕ
-reads_left marks ps = with_marks marks (ids_read ps)
+-- one that is read, and another
+pub reads_more : (marks : List ℕ) (ps : List Place) (p : Place) → leb p.role 4 ≡ true → with_marks marks (ids_read (ps ++ p ∷ [])) ≡ with_mark (with_marks marks (ids_read ps)) p.identifier.0
+reads_more marks [] p e = ap (λ b. with_marks marks (ids (elim b as (λ _. List Place) [ true ↦ p ∷ [] | false ↦ [] ]))) e
+reads_more marks (q ∷ ps) p e = elim (leb q.role 4) as (λ b. with_marks marks (ids (elim b as (λ _. List Place) [ true ↦ q ∷ select (λ (r : Place). leb r.role 4) (ps ++ p ∷ []) | false ↦ select (λ (r : Place). leb r.role 4) (ps ++ p ∷ []) ]))
+    ≡ with_mark (with_marks marks (ids (elim b as (λ _. List Place) [ true ↦ q ∷ select (λ (r : Place). leb r.role 4) ps | false ↦ select (λ (r : Place). leb r.role 4) ps ]))) p.identifier.0) [
+      | true ↦ reads_more (with_mark marks q.identifier.0) ps p e
+      | false ↦ reads_more marks ps p e
+    ]
 
-pub reads_more : (marks : List ℕ) (ps : List Place) (i : ℕ) → i < length ps → (get_or ps i null_place).role ≤ 4
-    → reads_left marks (drop i ps) ≡ reads_left (with_mark marks (get_or ps i null_place).identifier.0) (drop (i + 1) ps)
-reads_more marks ps i h r =
-    let p : Place = get_or ps i null_place in
-    let rest : List Place = drop (i + 1) ps in
-    at_drop_more (reads_left marks) ps i null_place h
-    ∙ ap (λ (l : List Place). with_marks marks (ids l)) (pick_true (leb p.role 4) (p ∷ select (λ (q : Place). leb q.role 4) rest) (select (λ (q : Place). leb q.role 4) rest) (le-leb p.role 4 r))
+pub reads_same : (marks : List ℕ) (ps : List Place) (p : Place) → leb p.role 4 ≡ false → with_marks marks (ids_read (ps ++ p ∷ [])) ≡ with_marks marks (ids_read ps)
+reads_same marks [] p e = ap (λ b. with_marks marks (ids (elim b as (λ _. List Place) [ true ↦ p ∷ [] | false ↦ [] ]))) e
+reads_same marks (q ∷ ps) p e = elim (leb q.role 4) as (λ b. with_marks marks (ids (elim b as (λ _. List Place) [ true ↦ q ∷ select (λ (r : Place). leb r.role 4) (ps ++ p ∷ []) | false ↦ select (λ (r : Place). leb r.role 4) (ps ++ p ∷ []) ]))
+    ≡ with_marks marks (ids (elim b as (λ _. List Place) [ true ↦ q ∷ select (λ (r : Place). leb r.role 4) ps | false ↦ select (λ (r : Place). leb r.role 4) ps ]))) [
+      | true ↦ reads_same (with_mark marks q.identifier.0) ps p e
+      | false ↦ reads_same marks ps p e
+    ]
 
-pub reads_less : (marks : List ℕ) (ps : List Place) (i : ℕ) → i < length ps → 4 < (get_or ps i null_place).role
-    → reads_left marks (drop i ps) ≡ reads_left marks (drop (i + 1) ps)
-reads_less marks ps i h r =
-    let p : Place = get_or ps i null_place in
-    let rest : List Place = drop (i + 1) ps in
-    at_drop_more (reads_left marks) ps i null_place h
-    ∙ ap (λ (l : List Place). with_marks marks (ids l)) (pick_false (leb p.role 4) (p ∷ select (λ (q : Place). leb q.role 4) rest) (select (λ (q : Place). leb q.role 4) rest) (lt-leb p.role 4 r))
-
-abbrev pub writes_left : List ℕ → List Place → Bool
-writes_left marks ps = any (is_marked marks) (ids_written ps)
-
-pub writes_more : (marks : List ℕ) (ps : List Place) (i : ℕ) → i < length ps → (get_or ps i null_place).role ≡ 5
-    → writes_left marks (drop i ps) ≡ (is_marked marks (get_or ps i null_place).identifier.0 || writes_left marks (drop (i + 1) ps))
-writes_more marks ps i h r =
-    let p : Place = get_or ps i null_place in
-    let rest : List Place = drop (i + 1) ps in
-    at_drop_more (writes_left marks) ps i null_place h
-    ∙ ap (λ (l : List Place). any (is_marked marks) (ids l)) (pick_true (eqb p.role 5) (p ∷ select (λ (q : Place). eqb q.role 5) rest) (select (λ (q : Place). eqb q.role 5) rest) (eq-eqb p.role 5 r))
-
-pub writes_less : (marks : List ℕ) (ps : List Place) (i : ℕ) → i < length ps → ((get_or ps i null_place).role ≡ 5 → ⊥)
-    → writes_left marks (drop i ps) ≡ writes_left marks (drop (i + 1) ps)
-writes_less marks ps i h r =
-    let p : Place = get_or ps i null_place in
-    let rest : List Place = drop (i + 1) ps in
-    at_drop_more (writes_left marks) ps i null_place h
-    ∙ ap (λ (l : List Place). any (is_marked marks) (ids l)) (pick_false (eqb p.role 5) (p ∷ select (λ (q : Place). eqb q.role 5) rest) (select (λ (q : Place). eqb q.role 5) rest) (ne_eqb p.role 5 r))
-
-pub is_marked_new : (marks : List ℕ) (x : ℕ) → (get_or marks x 0 ≡ 0 → ⊥) → is_marked marks x ≡ true
-is_marked_new marks x h = ap not (ne_eqb (get_or marks x 0) 0 h)
+-- written places among which one is marked
+pub any_written : (marks : List ℕ) (ps : List Place) → list_any (λ (p : Place). eqb p.role 5 && is_marked marks p.identifier.0) ps ≡ any (is_marked marks) (ids_written ps)
+any_written marks [] = refl
+any_written marks (p ∷ ps) = elim (eqb p.role 5) as (λ b. (b && is_marked marks p.identifier.0 || list_any (λ (q : Place). eqb q.role 5 && is_marked marks q.identifier.0) ps)
+    ≡ any (is_marked marks) (ids (elim b as (λ _. List Place) [ true ↦ p ∷ select (λ (q : Place). eqb q.role 5) ps | false ↦ select (λ (q : Place). eqb q.role 5) ps ]))) [
+      | true ↦ ap (λ b. is_marked marks p.identifier.0 || b) (any_written marks ps)
+      | false ↦ any_written marks ps
+    ]
 
 pub is_marked_not : (marks : List ℕ) (x : ℕ) → get_or marks x 0 ≡ 0 → is_marked marks x ≡ false
 is_marked_not marks x h = ap not (eq-eqb (get_or marks x 0) 0 h)

@@ -24,7 +24,8 @@ use Rattle.thin.proofs.Thinned.{thinned_short}
 use Rattle.dead_code_elimination.specs.Elimination.{Outside, OnlyLists, Eliminates}
 use Rattle.dead_code_elimination.proofs.Same.{only_same}
 use Rattle.sweep.specs.Marks.{is_marked, kept_by, by_marks}
-use Rattle.sweep.proofs.Reading.{blocks_count, functions_seen}
+use Rattle.hir.proofs.Seen.{legible, blocks_counted}
+use Rattle.sweep.proofs.Reading.{functions_seen}
 use Rattle.sweep.proofs.Thinning.{lists_long, lists_at, listing_past, relisted, relisted_more, relisted_none, relisted_blocks, paste_outside}
 
 -- the first k lists are done; the blocks from k on are as they were
@@ -46,7 +47,7 @@ module _ (t : Tables) (w : WellFormed t) (f : ℕ) (used : f < t.counts.function
   count = (get_or t.functions f null_function).blocks.count
 
   bs_long : length bs ≡ count
-  bs_long = blocks_count t w f used
+  bs_long = blocks_counted t (legible t w) f used
 
   pub start : Progress t marks f 0 t
   start = record { seen = relisted_none (view t) f; well = w; kept = kept_same t; only = only_same t f; later = λ j h. refl }
@@ -104,7 +105,7 @@ module _ (t : Tables) (w : WellFormed t) (f : ℕ) (used : f < t.counts.function
     listed_was : rows_at (view u) f k ≡ get_or (lists bs) k []
     listed_was =
         ap (λ (x : Hir). rows_at x f k) g.seen
-        ∙ ap (λ (cs : List BlockV). block_rows cs k) (relisted_blocks (view t) f ls (omega (arith, functions_seen t w f used)))
+        ∙ ap (λ (cs : List BlockV). block_rows cs k) (relisted_blocks (view t) f ls (omega (arith, functions_seen t (legible t w))))
         ∙ listing_past bs ls k (omega (arith, ls_long))
         ∙ lists_at bs k
 
@@ -160,4 +161,4 @@ module _ (t : Tables) (w : WellFormed t) (f : ℕ) (used : f < t.counts.function
 
 pub all_done : (before after : Store) (w : WellFormed (tables before)) (f : ℕ) (used : f < (tables before).counts.functions) (marks : List ℕ) (wide : (tables before).counts.identifiers ≤ length marks)
     → Progress (tables before) marks f (get_or (tables before).functions f null_function).blocks.count (tables after) → Held after before → Eliminates (by_marks marks) before after f
-all_done before after w f used marks wide g held = record { seen = all_seen (tables before) w f used marks wide (tables after) g; well = g.well; kept = g.kept; only = g.only; held = held }
+all_done before after w f used marks wide g held = record { seen = all_seen (tables before) w f used marks wide (tables after) g; kept = g.kept; only = g.only; held = held }

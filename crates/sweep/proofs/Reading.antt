@@ -1,7 +1,7 @@
 -- Rows and places as the tables have them, and as they are seen.
-use Rattle.std.proofs.Common.{◌≡◌, ℕ, zero, suc, ◌+◌, ◌-◌, ◌<◌, ◌≤◌, Bool, true, false, eqb, leb, List, [], ◌∷◌, map, length, get_or, drop, sym, refl, ap, ◌∙◌, subst, inl, inr, arith, get_or-take}
+use Rattle.std.proofs.Common.{◌≡◌, ℕ, zero, suc, ◌+◌, ◌-◌, ◌<◌, ◌≤◌, Bool, true, false, eqb, leb, List, [], ◌∷◌, ◌++◌, map, reverse, Bor, length, get_or, take, drop, sym, refl, ap, ◌∙◌, subst, inl, inr, arith, get_or-take}
 use lib.ListN.{length-map}
-use Rattle.std.proofs.lemmas.List.{at_drop_more, at_drop_all, get_or-map}
+use Rattle.std.proofs.lemmas.List.{at_drop_more, get_or-map, map-append, reverse-append}
 use Rattle.std.specs.List.{AllByRecursion}
 use Rattle.std.proofs.ByRecursion.{All-get_or, All-weaker, All-take, All-drop}
 use Rattle.rules.specs.Lists.{any, select, within, Lists}
@@ -9,22 +9,22 @@ use Rattle.rules.proofs.Membership.{In, in_cases, lists_none, lists_head, lists_
 use Rattle.rules.proofs.Positions.{map_lists}
 use Rattle.std.proofs.lemmas.Bool.{or_cases, both_ways, eqb-true}
 use Rattle.rules.specs.Kinds.{acts}
-use Rattle.rules.specs.Views.{Bytes, PlaceV, InstructionV, BlockV, FunctionV, identifiers_of, is_read, is_written, reads, rows_of, block_rows, writes, function_at, no_function}
+use Rattle.rules.specs.Views.{Bytes, PlaceV, InstructionV, BlockV, FunctionV, identifiers_of, is_read, is_written, reads, rows_of, block_rows, writes, function_at}
 use Rattle.rules.specs.Eliminations.{sweep_keeps, terminal_reads}
 use Rattle.hir.specs.declared.rows.Run.{Run}
 use Rattle.hir.specs.declared.rows.Counts.{Counts}
 use Rattle.hir.specs.declared.rows.Place.{Place}
 use Rattle.hir.specs.declared.rows.Instruction.{Instruction}
 use Rattle.hir.specs.declared.rows.BasicBlock.{BasicBlock}
-use Rattle.hir.specs.declared.rows.HirFunction.{HirFunction}
 use Rattle.hir.specs.Used.{in_run}
 use Rattle.hir.specs.Tables.{Tables}
 use Rattle.hir.specs.View.{rows, view, null_instruction, null_block, null_function, place_view, instruction_at, block_view, function_view}
-use Rattle.hir.specs.WellFormed.{RunFits, PlaceFits, BlockFits, FunctionFits, Readable, WellFormed}
-use Rattle.hir.proofs.Runs.{run_used, length_run, getD_run, covered}
+use Rattle.hir.specs.WellFormed.{RunFits, PlaceFits, BlockFits, Readable, WellFormed}
+use Rattle.hir.specs.Legible.{BlockLegible, Legible}
+use Rattle.hir.proofs.Runs.{length_run, getD_run, covered}
 use Rattle.hir.proofs.Growth.{sizes_are}
-use Rattle.hir.proofs.Seen.{readable, row_fits, row_seen, places_read, places_fit}
-use Rattle.sweep.specs.Marks.{is_marked, ids, ids_read, ids_written, IdsFit, kept_by, row_kept, passed, all_passed, round_passed, terminals_marked, with_marks}
+use Rattle.hir.proofs.Seen.{row_fits, row_seen, places_read, places_fit, slice_run, function_is, function_fits}
+use Rattle.sweep.specs.Marks.{is_marked, ids, ids_read, ids_written, IdsFit, kept_by, row_kept, passed, all_passed, round_passed, terminal_at, terminals_marked, with_marks, TerminalsFit}
 use Rattle.rules.proofs.Steps.{pick_true, pick_false}
 use Rattle.sweep.proofs.Settling.{InRange}
 
@@ -110,134 +110,121 @@ back F xs d j h l =
     let e : j - 1 + 1 ≡ j = omega arith in
     at_drop_more F xs (j - 1) d (omega arith) ∙ ap (λ k. F (get_or xs (j - 1) d ∷ drop k xs)) e
 
--- the rows of a list, from the last to the first
-pub rows_back : (g : ℕ → InstructionV) (marks ns : List ℕ) (j : ℕ) → 0 < j → j ≤ length ns
-    → passed (all_passed marks (map g (drop j ns))) (g (get_or ns (j - 1) 0)) ≡ all_passed marks (map g (drop (j - 1) ns))
-rows_back g marks ns j h l = sym (back (λ (l : List ℕ). all_passed marks (map g l)) ns 0 j h l)
+-- the rows of a list, from the last to the first: one more
+pub rows_more : (g : ℕ → InstructionV) (marks : List ℕ) (ns : List (Bor ℕ)) (n : Bor ℕ) → all_passed marks (map g (reverse (map (λ (m : Bor ℕ). m.now) (ns ++ n ∷ [])))) ≡ passed (all_passed marks (map g (reverse (map (λ (m : Bor ℕ). m.now) ns)))) (g n.now)
+rows_more g marks ns n = ap (λ l. all_passed marks (map g (reverse l))) (map-append (λ (m : Bor ℕ). m.now) ns (n ∷ [])) ∙ ap (λ l. all_passed marks (map g l)) (reverse-append (map (λ (m : Bor ℕ). m.now) ns) (n.now ∷ []))
 
-pub rows_start : (g : ℕ → InstructionV) (marks ns : List ℕ) → marks ≡ all_passed marks (map g (drop (length ns) ns))
-rows_start g marks ns = sym (at_drop_all (λ (l : List ℕ). all_passed marks (map g l)) ns (length ns) (omega arith))
+-- the lists of blocks, and what their terminals read, from the last to the first
+abbrev no_block : BlockV
+no_block = record { kind = 0; terminal = 0; detail = 0; places = []; rows = []; preds = [] }
 
--- the lists of blocks, from the last to the first
 block_rows_are : (bs : List BlockV) (k : ℕ) (d : BlockV) → k < length bs → block_rows bs k ≡ (get_or bs k d).rows
 block_rows_are [] k d h = absurd (omega arith)
 block_rows_are (b ∷ bs) zero d h = refl
 block_rows_are (b ∷ bs) (suc k) d h = block_rows_are bs k d (omega arith)
 
-pub round_back : (marks : List ℕ) (bs : List BlockV) (k : ℕ) → 0 < k → k ≤ length bs → all_passed (round_passed marks (drop k bs)) (block_rows bs (k - 1)) ≡ round_passed marks (drop (k - 1) bs)
-round_back marks bs k h l =
-    let d : BlockV = record { kind = 0; terminal = 0; detail = 0; places = []; rows = []; preds = [] } in
-    ap (all_passed (round_passed marks (drop k bs))) (block_rows_are bs (k - 1) d (omega arith)) ∙ sym (back (round_passed marks) bs d k h l)
+terminal_is : (bs : List BlockV) (k : ℕ) (d : BlockV) → k < length bs → terminal_at bs k ≡ (get_or bs k d).places
+terminal_is [] k d h = absurd (omega arith)
+terminal_is (b ∷ bs) zero d h = refl
+terminal_is (b ∷ bs) (suc k) d h = terminal_is bs k d (omega arith)
 
-module _ (t : Tables) (w : WellFormed t) where
-  places_size : length (rows t).places ≡ t.counts.places
-  places_size = ap (λ (c : Counts). c.places) (sizes_are t w.counted)
+pub round_more : (marks : List ℕ) (bs : List BlockV) (k : ℕ) → 0 < k → k ≤ length bs → all_passed (round_passed marks (drop k bs)) (block_rows bs (k - 1)) ≡ round_passed marks (drop (k - 1) bs)
+round_more marks bs k h l = ap (all_passed (round_passed marks (drop k bs))) (block_rows_are bs (k - 1) no_block (omega arith)) ∙ sym (back (round_passed marks) bs no_block k h l)
 
+pub terminals_more : (marks : List ℕ) (bs : List BlockV) (k : ℕ) → 0 < k → k ≤ length bs → with_marks (terminals_marked marks (drop k bs)) (identifiers_of (terminal_at bs (k - 1))) ≡ terminals_marked marks (drop (k - 1) bs)
+terminals_more marks bs k h l = ap (λ ps. with_marks (terminals_marked marks (drop k bs)) (identifiers_of ps)) (terminal_is bs (k - 1) no_block (omega arith)) ∙ sym (back (terminals_marked marks) bs no_block k h l)
+
+pub terminals_fit : (t : Tables) → WellFormed t → TerminalsFit t
+terminals_fit t w = All-weaker (BlockFits t.counts (rows t).numbers) (λ (b : BasicBlock). RunFits b.places t.counts.places) (λ b h. h.places) (rows t).blocks w.sound.blocks
+
+module _ (t : Tables) (w : Legible t) where
   blocks_size : length (rows t).blocks ≡ t.counts.blocks
-  blocks_size = ap (λ (c : Counts). c.blocks) (sizes_are t w.counted)
+  blocks_size = ap (λ (c : Counts). c.blocks) (sizes_are t w.readable.counted)
 
-  -- places of a run that fits
-  in_places : (run : Run) → RunFits run t.counts.places → in_run (rows t).places run ≡ in_run t.places run
-  in_places run h = run_used run t.counts.places t.places (omega (arith, places_size))
-
-  pub run_in_table : (run : Run) → RunFits run t.counts.places → RunFits run (length t.places)
-  run_in_table run h = omega (arith, w.counted.places.in_table)
-
-  pub ids_fit : (marks : List ℕ) → t.counts.identifiers ≤ length marks → (run : Run) → RunFits run t.counts.places → IdsFit marks (in_run t.places run)
-  ids_fit marks wide run h =
-      subst (IdsFit marks) (in_places run h)
-      (All-weaker (PlaceFits t.counts) (λ (p : Place). p.identifier.0 < length marks) (λ p f. omega (arith, f.identifier)) (in_run (rows t).places run)
-      (All-take (PlaceFits t.counts) run.count _ (All-drop (PlaceFits t.counts) run.first (rows t).places w.sound.places)))
+  run_places_fit : (run : Run) → AllByRecursion (PlaceFits t.counts) (in_run (rows t).places run)
+  run_places_fit run = All-take (PlaceFits t.counts) run.count _ (All-drop (PlaceFits t.counts) run.first (rows t).places w.readable.places)
 
   -- what blocks list and their terminals read, in any list of used blocks
   module _ (marks : List ℕ) (wide : t.counts.identifiers ≤ length marks) where
-    abbrev Fit : List BasicBlock → Type 0
-    Fit bs = AllByRecursion (BlockFits t.counts (rows t).numbers) bs
-
-    rows_range : (bs : List BasicBlock) → Fit bs → (i : InstructionV) → Lists (rows_of (map (block_view (rows t)) bs)) i → InRange marks (reads i)
+    rows_range : (bs : List BasicBlock) → AllByRecursion (BlockLegible t.counts (rows t).numbers) bs → (i : InstructionV) → Lists (rows_of (map (block_view (rows t)) bs)) i → InRange marks (reads i)
     rows_range [] a i l = lists_none l
     rows_range (b ∷ bs) a i l = elim (lists_split (block_view (rows t) b).rows l) [
       | inl m ↦
           let u = map_lists (instruction_at (rows t)) (in_run (rows t).numbers b.instructions) i m in
           let used = all_lists (λ n. n < t.counts.instructions) (in_run (rows t).numbers b.instructions) u.0 a.0.listed u.1 in
-          subst (λ (j : InstructionV). InRange marks (reads j)) (sym u.2) (row_range t (readable t w) marks wide u.0 used)
+          subst (λ (j : InstructionV). InRange marks (reads j)) (sym u.2) (row_range t w.readable marks wide u.0 used)
       | inr m ↦ rows_range bs a.1 i m
     ]
 
-    terminals_range : (bs : List BasicBlock) → Fit bs → InRange marks (terminal_reads (map (block_view (rows t)) bs))
-    terminals_range [] a x h = absurd (both_ways false refl h)
-    terminals_range (b ∷ bs) a x h = elim (in_cases x (identifiers_of (block_view (rows t) b).places) (terminal_reads (map (block_view (rows t)) bs)) h) [
-      | inl q ↦ all_ids_below (length marks) (in_run t.places b.places) (ids_fit marks wide b.places a.0.places) x (subst (λ (l : List ℕ). In x l) (ids_seen (rows t).text (in_run (rows t).places b.places) ∙ ap ids (in_places b.places a.0.places)) q)
-      | inr q ↦ terminals_range bs a.1 x q
+    terminals_range : (bs : List BasicBlock) → InRange marks (terminal_reads (map (block_view (rows t)) bs))
+    terminals_range [] x h = absurd (both_ways false refl h)
+    terminals_range (b ∷ bs) x h = elim (in_cases x (identifiers_of (block_view (rows t) b).places) (terminal_reads (map (block_view (rows t)) bs)) h) [
+      | inl q ↦ all_ids_below (length marks) (in_run (rows t).places b.places) (places_fit_marks marks t.counts wide _ (run_places_fit b.places)) x (subst (λ (l : List ℕ). In x l) (ids_seen (rows t).text (in_run (rows t).places b.places)) q)
+      | inr q ↦ terminals_range bs x q
     ]
 
-    all_fit : (run : Run) → Fit (in_run (rows t).blocks run)
-    all_fit run = All-take (BlockFits t.counts (rows t).numbers) run.count _ (All-drop (BlockFits t.counts (rows t).numbers) run.first (rows t).blocks w.sound.blocks)
+  pub functions_seen : length (view t).functions ≡ t.counts.functions
+  functions_seen = length-map (rows t).functions (function_view (rows t)) ∙ ap (λ (c : Counts). c.functions) (sizes_are t w.readable.counted)
 
-  -- a used block
-  module _ (n : ℕ) (used : n < t.counts.blocks) where
-    abbrev pub block : BasicBlock
-    block = get_or t.blocks n null_block
-
-    pub block_fits : BlockFits t.counts (rows t).numbers block
-    block_fits = subst (BlockFits t.counts (rows t).numbers) (get_or-take t.counts.blocks t.blocks n null_block used) (All-get_or (BlockFits t.counts (rows t).numbers) (rows t).blocks n null_block (omega (arith, blocks_size)) w.sound.blocks)
-
-    pub terminal_ids : identifiers_of (block_view (rows t) block).places ≡ ids (in_run t.places block.places)
-    terminal_ids = ids_seen (rows t).text (in_run (rows t).places block.places) ∙ ap ids (in_places block.places block_fits.places)
-
-  -- the blocks of a used function, from the last to the first
+  -- the blocks of a used function
   module _ (f : ℕ) (used : f < t.counts.functions) where
-    abbrev pub blocks_run : Run
+    abbrev blocks_run : Run
     blocks_run = (get_or t.functions f null_function).blocks
 
-    abbrev pub blocks : List BlockV
+    abbrev blocks : List BlockV
     blocks = map (block_view (rows t)) (in_run (rows t).blocks blocks_run)
 
-    functions_size : length (rows t).functions ≡ t.counts.functions
-    functions_size = ap (λ (c : Counts). c.functions) (sizes_are t w.counted)
-
-    pub functions_seen : length (view t).functions ≡ t.counts.functions
-    functions_seen = length-map (rows t).functions (function_view (rows t)) ∙ functions_size
-
-    function_is : get_or (rows t).functions f null_function ≡ get_or t.functions f null_function
-    function_is = get_or-take t.counts.functions t.functions f null_function used
+    blocks_are : (function_at (view t) f).blocks ≡ blocks
+    blocks_are = ap (λ (g : FunctionV). g.blocks) (function_is t w f used)
 
     pub blocks_fit : RunFits blocks_run t.counts.blocks
-    blocks_fit = (subst (FunctionFits t.counts) function_is (All-get_or (FunctionFits t.counts) (rows t).functions f null_function (omega (arith, functions_size)) w.sound.functions)).blocks
+    blocks_fit = (function_fits t w f used).blocks
 
-    pub blocks_are : (function_at (view t) f).blocks ≡ blocks
-    blocks_are =
-        ap (λ (g : FunctionV). g.blocks) (get_or-map (function_view (rows t)) (rows t).functions f null_function no_function (omega (arith, functions_size)))
-        ∙ ap (λ (g : HirFunction). map (block_view (rows t)) (in_run (rows t).blocks g.blocks)) function_is
-
-    pub blocks_long : length blocks ≡ blocks_run.count
+    blocks_long : length blocks ≡ blocks_run.count
     blocks_long = length-map (in_run (rows t).blocks blocks_run) (block_view (rows t)) ∙ length_run blocks_run (rows t).blocks (omega (arith, blocks_size, blocks_fit))
 
-    abbrev pub seen_at : ℕ → BlockV
-    seen_at k = block_view (rows t) (get_or t.blocks (blocks_run.first + k) null_block)
-
-    pub block_at : (k : ℕ) → k < blocks_run.count → get_or blocks k (block_view (rows t) null_block) ≡ seen_at k
-    block_at k h =
-        get_or-map (block_view (rows t)) (in_run (rows t).blocks blocks_run) k null_block (block_view (rows t) null_block) (covered blocks_run (rows t).blocks k h (omega (arith, blocks_size, blocks_fit)))
-        ∙ ap (block_view (rows t)) (getD_run blocks_run (rows t).blocks k null_block h ∙ get_or-take t.counts.blocks t.blocks (blocks_run.first + k) null_block (omega (arith, blocks_fit)))
-
-    pub blocks_count : length (function_at (view t) f).blocks ≡ blocks_run.count
-    blocks_count = ap length blocks_are ∙ blocks_long
-
-    pub round_start : (marks : List ℕ) → marks ≡ round_passed marks (drop blocks_run.count (function_at (view t) f).blocks)
-    round_start marks = sym (at_drop_all (round_passed marks) (function_at (view t) f).blocks blocks_run.count (omega (arith, blocks_count)))
-
-    pub terminals_start : (marks : List ℕ) → marks ≡ terminals_marked marks (drop blocks_run.count blocks)
-    terminals_start marks = sym (at_drop_all (terminals_marked marks) blocks blocks_run.count (omega (arith, blocks_long)))
-
-    pub terminals_back : (marks : List ℕ) (k : ℕ) → 0 < k → k ≤ blocks_run.count → with_marks (terminals_marked marks (drop k blocks)) (identifiers_of (seen_at (k - 1)).places) ≡ terminals_marked marks (drop (k - 1) blocks)
-    terminals_back marks k h l =
-        ap (λ (b : BlockV). with_marks (terminals_marked marks (drop k blocks)) (identifiers_of b.places)) (sym (block_at (k - 1) (omega arith)))
-        ∙ sym (back (terminals_marked marks) blocks (block_view (rows t) null_block) k h (omega (arith, blocks_long)))
-
-    -- what they read has mark bytes
+    -- what its rows read has mark bytes
     pub function_rows_range : (marks : List ℕ) → t.counts.identifiers ≤ length marks → (i : InstructionV) → Lists (rows_of (function_at (view t) f).blocks) i → InRange marks (reads i)
-    function_rows_range marks wide i l = rows_range marks wide (in_run (rows t).blocks blocks_run) (all_fit marks wide blocks_run) i (subst (λ (bs : List BlockV). Lists (rows_of bs) i) blocks_are l)
+    function_rows_range marks wide i l =
+        rows_range marks wide (in_run (rows t).blocks blocks_run) (All-take (BlockLegible t.counts (rows t).numbers) blocks_run.count _ (All-drop (BlockLegible t.counts (rows t).numbers) blocks_run.first (rows t).blocks w.blocks)) i
+        (subst (λ (bs : List BlockV). Lists (rows_of bs) i) blocks_are l)
 
+    -- and so has what its terminals read
     pub function_terminals_range : (marks : List ℕ) → t.counts.identifiers ≤ length marks → InRange marks (terminal_reads (function_at (view t) f).blocks)
-    function_terminals_range marks wide = subst (λ (bs : List BlockV). InRange marks (terminal_reads bs)) (sym blocks_are) (terminals_range marks wide (in_run (rows t).blocks blocks_run) (all_fit marks wide blocks_run))
+    function_terminals_range marks wide = subst (λ (bs : List BlockV). InRange marks (terminal_reads bs)) (sym blocks_are) (terminals_range marks wide (in_run (rows t).blocks blocks_run))
+
+    -- its k-th block, and the places of its terminal as the code reads them
+    module _ (terminals : TerminalsFit t) (k : ℕ) (inside : k < blocks_run.count) where
+      abbrev block : BasicBlock
+      block = get_or t.blocks (blocks_run.first + k) null_block
+
+      block_is : get_or (rows t).blocks (blocks_run.first + k) null_block ≡ block
+      block_is = get_or-take t.counts.blocks t.blocks (blocks_run.first + k) null_block (omega (arith, blocks_fit))
+
+      block_at : get_or blocks k (block_view (rows t) null_block) ≡ block_view (rows t) block
+      block_at =
+          get_or-map (block_view (rows t)) (in_run (rows t).blocks blocks_run) k null_block (block_view (rows t) null_block) (covered blocks_run (rows t).blocks k inside (omega (arith, blocks_size, blocks_fit)))
+          ∙ ap (block_view (rows t)) (getD_run blocks_run (rows t).blocks k null_block inside ∙ block_is)
+
+      places_in : RunFits block.places t.counts.places
+      places_in = subst (λ (b : BasicBlock). RunFits b.places t.counts.places) block_is (All-get_or (λ (b : BasicBlock). RunFits b.places t.counts.places) (rows t).blocks (blocks_run.first + k) null_block (omega (arith, blocks_size, blocks_fit)) terminals)
+
+      pub terminal_in_table : RunFits block.places (length t.places)
+      terminal_in_table = omega (arith, places_in, w.readable.counted.places.in_table)
+
+      abbrev pub terminal : List Place
+      terminal = take (block.places.first + block.places.count - block.places.first) (drop block.places.first t.places)
+
+      read : terminal ≡ in_run (rows t).places block.places
+      read = slice_run block.places t.counts.places t.places (omega (arith, w.readable.counted.places.in_table)) places_in
+
+      pub terminal_fit : AllByRecursion (PlaceFits t.counts) terminal
+      terminal_fit = subst (AllByRecursion (PlaceFits t.counts)) (sym read) (run_places_fit block.places)
+
+      pub terminal_seen : ids terminal ≡ identifiers_of (terminal_at (function_at (view t) f).blocks k)
+      terminal_seen =
+          ap ids read
+          ∙ sym (ids_seen (rows t).text (in_run (rows t).places block.places))
+          ∙ ap (λ (b : BlockV). identifiers_of b.places) (sym block_at)
+          ∙ ap identifiers_of (sym (terminal_is blocks k (block_view (rows t) null_block) (omega (arith, inside, blocks_long))))
+          ∙ ap (λ bs. identifiers_of (terminal_at bs k)) (sym blocks_are)

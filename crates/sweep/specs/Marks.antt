@@ -3,10 +3,14 @@ use Rattle.std.specs.Prelude.{◌≡◌, ℕ, zero, suc, ◌+◌, ◌<◌, Bool,
 use Rattle.std.specs.List.{AllByRecursion}
 use Rattle.rules.specs.Lists.{any, select, Lists}
 use Rattle.rules.specs.Kinds.{acts}
-use Rattle.rules.specs.Views.{InstructionV, BlockV, acting, function_at, identifiers_of, reads, rows_of, writes}
+use Rattle.rules.specs.Views.{PlaceV, InstructionV, BlockV, acting, function_at, identifiers_of, reads, rows_of, writes}
 use Rattle.rules.specs.Eliminations.{Meaning, kept, lists, needed, sweep_keeps}
 use Rattle.hir.specs.declared.rows.Place.{Place}
 use Rattle.hir.specs.declared.rows.Instruction.{Instruction}
+use Rattle.hir.specs.declared.rows.BasicBlock.{BasicBlock}
+use Rattle.hir.specs.Tables.{Tables}
+use Rattle.hir.specs.View.{rows}
+use Rattle.hir.specs.WellFormed.{RunFits}
 
 -- is the identifier marked?
 abbrev pub is_marked : List ℕ → ℕ → Bool
@@ -72,6 +76,12 @@ abbrev pub round_passed : List ℕ → List BlockV → List ℕ
 round_passed marks [] = marks
 round_passed marks (b ∷ bs) = all_passed (round_passed marks bs) b.rows
 
+-- the places of the k-th block's terminal
+abbrev pub terminal_at : List BlockV → ℕ → List PlaceV
+terminal_at [] k = []
+terminal_at (b ∷ bs) zero = b.places
+terminal_at (b ∷ bs) (suc k) = terminal_at bs k
+
 -- What the terminals read, from the last block to the first.
 abbrev pub terminals_marked : List ℕ → List BlockV → List ℕ
 terminals_marked marks [] = marks
@@ -84,3 +94,7 @@ MarksNeeded bs marks = (i : InstructionV) → Lists (rows_of bs) i → kept_by (
 -- The meaning of marks: each list, without the rows that they do not keep.
 abbrev pub by_marks : List ℕ → Meaning
 by_marks marks h f = map (select (kept_by (is_marked marks))) (lists (function_at h f).blocks)
+
+-- The places of each terminal are used.
+abbrev pub TerminalsFit : Tables → Type 0
+TerminalsFit t = AllByRecursion (λ (b : BasicBlock). RunFits b.places t.counts.places) (rows t).blocks

@@ -5,7 +5,7 @@ use super::mark::mark_needed;
 use super::thin_lists::thin_lists;
 use super::wipe::Wipe;
 use dead_code_elimination::Elimination;
-use hir::{FunctionId, Store};
+use hir::{FormedStore, FunctionId};
 
 // Keeps the rows that act, and those that write what a terminal or a kept row reads.
 #[derive(Clone, Copy)]
@@ -16,9 +16,9 @@ impl Elimination for Sweep {
 
     ghost lawful = { sweep_lawful };
 
-    fn eliminate(&self, store: &mut Store<'_>, function: FunctionId, marks: &mut [u8]) {
+    fn eliminate(&self, store: &mut FormedStore<'_>, function: FunctionId, marks: &mut [u8]) {
         let guard = Wipe { marks };
-        mark_needed(store, guard.marks, function);
-        thin_lists(store, guard.marks, function);
+        mark_needed(store, function, guard.marks);
+        thin_lists(store, function, guard.marks);
     }
 }

@@ -1,38 +1,19 @@
 ghost use Rattle.std.specs.Prelude.{◌<◌, ◌≤◌, length};
-ghost use Rattle.hir.specs.Tables.{tables};
-ghost use Rattle.hir.specs.WellFormed.{WellFormed};
 ghost use Rattle.dead_code_elimination.specs.Elimination.{Eliminates};
-ghost use Rattle.sweep.specs.Marks.{by_marks, is_marked, kept_by};
+ghost use Rattle.sweep.specs.Marks.{by_marks};
 
-use super::mark::is_kept;
-use hir::{FunctionId, InstructionId, Store};
-use thin::{Keeps, thin_block_list};
-
-// What the marks keep stays.
-#[derive(Drop)]
-struct Marked<'a> {
-    marks: &'a [u8],
-}
-
-impl Keeps for Marked<'_> {
-    ghost test = { λ s. kept_by (is_marked s.marks.now) };
-
-    ghost ready = { λ s c. c.identifiers ≤ length s.marks.now };
-
-    fn keeps(&self, store: &Store<'_>, row: InstructionId) -> bool {
-        is_kept(store, self.marks, row)
-    }
-}
+use super::kept::Marked;
+use hir::{FormedStore, FunctionId};
+use thin::thin_block_list;
 
 // Each list of a function, without the rows that the marks do not keep.
-pub(super) fn thin_lists(store: &mut Store<'_>, marks: &[u8], function: FunctionId)
-    requires well { WellFormed (tables store.old) }
+pub(super) fn thin_lists(store: &mut FormedStore<'_>, function: FunctionId, marks: &[u8])
     requires wide { store.old.counts.identifiers ≤ length marks.now }
     requires used { function.0 < store.old.counts.functions }
     ensures { Eliminates (by_marks marks.now) store.old store.new function.0 }
 {
     let keep = Marked { marks };
-    for k in 0..store.functions[function.0 as usize].blocks.count {
+    for k in 0..store.lent.functions[function.0 as usize].blocks.count {
         thin_block_list(store, function, k, &keep);
     }
 }

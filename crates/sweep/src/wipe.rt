@@ -5,19 +5,11 @@ pub(super) struct Wipe<'a> {
     pub(super) marks: &'a mut [u8],
 }
 
-fn zero(marks: &mut [u8])
-    ensures { Zero marks.new }
-{
-    for mark in marks.iter_mut() {
-        *mark = 0;
-    }
-}
-
 impl Drop for Wipe<'_> {
     fn drop(self)
         ensures { Zero self.exit.0.now }
     {
-        zero(self.marks);
+        self.marks.fill(0);
         let Wipe { marks: _ } = self;
     }
 }

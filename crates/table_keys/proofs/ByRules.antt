@@ -46,14 +46,10 @@ pub binds_by_rules : (V : Type 0) → BindsByRules V
 binds_by_rules V = record { puts = lines_put; looks = lines_look }
 
 or_twice : (a b : Bool) → (a || b) ≡ (a || (a || b))
-or_twice true b = refl
-or_twice false b = refl
+or_twice a b = grind arith
 
 or_swap : (a b c : Bool) → (a || (b || c)) ≡ (b || (a || c))
-or_swap true true c = refl
-or_swap true false c = refl
-or_swap false true c = refl
-or_swap false false c = refl
+or_swap a b c = grind arith
 
 module _ (text : Bytes) where
   -- whether a name is among the keys is told by its bytes

@@ -14,6 +14,7 @@ use hir::{IdentifierId, Name};
 use ordered_table::OrderedTable;
 
 // The value of an identifier; no text is needed to compare numbers. Tables over identifiers are those of the rules.
+#[tactic(auto, using(crate::proofs::ByRules::binds_by_rules))]
 pub fn value_of<'t, V: Copy>(
     table: &'t OrderedTable<'_, IdentifierId, V>,
     id: IdentifierId,
@@ -25,6 +26,7 @@ pub fn value_of<'t, V: Copy>(
 }
 
 // Does the table have a name of these bytes? Tables over names tell it as the rules do.
+#[tactic(auto, using(crate::proofs::ByRules::among_bytes, crate::proofs::ByRules::seen_by_rules))]
 pub fn is_seen<V: Copy>(table: &OrderedTable<'_, Name, V>, name: Name, text: &[u8]) -> bool
     ensures seen { result ≡ borne (spelt text.now name) (map (spelt text.now) (keys (entries_of table.now))) }
     ensures rules { SeenByRules V text.now }

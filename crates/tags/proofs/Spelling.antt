@@ -1,5 +1,6 @@
 -- The bytes of a tag.
-use Rattle.std.proofs.Common.{◌≡◌, ℕ, zero, suc, ◌+◌, ◌-◌, ◌^◌, ◌<◌, ◌≤◌, Bool, true, false, cond, [], ◌∷◌, ◌++◌, length, sym, ap, ◌∙◌, inl, inr, add-one, sub-one, arith, length-append, eq-eqb, ne_eqb}
+use Rattle.std.proofs.Common.{◌≡◌, ℕ, zero, suc, ◌+◌, ◌<◌, ◌≤◌, Bool, true, false, cond, [], ◌∷◌, ◌++◌, length, Some, None, Option, sym, ap, ◌∙◌, subst, inl, inr, add-one, arith, eq-eqb, ne_eqb}
+use Rattle.std.specs.Option.{MatchOption, unwrap_or}
 use Rattle.rules.specs.Views.{Bytes, Hir, write}
 use Rattle.rules.specs.Emit.{take_tag}
 use Rattle.std.proofs.lemmas.List.{length-map}
@@ -8,36 +9,45 @@ use Rattle.rules.specs.Names.{known, numeral, tag_name, free_tag, next_tag}
 use Rattle.hir.specs.declared.rows.Counts.{Counts}
 use Rattle.hir.specs.Tables.{Tables, with_text, with_tag}
 use Rattle.hir.specs.View.{rows, identifier_view, view}
-use Rattle.hir.specs.WellFormed.{Room, text_limit, WellFormed}
+use Rattle.hir.specs.WellFormed.{WellFormed}
 use Rattle.hir.proofs.Growth.{sizes_are}
-use Rattle.hir.proofs.Laws.{view_text}
-use Rattle.names.proofs.Numbers.{length_numeral_le}
 
 -- _temp
-abbrev pub temp : Bytes
+abbrev temp : Bytes
 temp = 95 ∷ 116 ∷ 101 ∷ 109 ∷ 112 ∷ []
 
-pub tag_first : (n : ℕ) → n ≡ 1 → tag_name n ≡ temp
+tag_first : (n : ℕ) → n ≡ 1 → tag_name n ≡ temp
 tag_first n e = ap (λ b. 95 ∷ 116 ∷ 101 ∷ 109 ∷ 112 ∷ cond b [] (numeral n)) (eq-eqb n 1 e)
 
 pub tag_later : (n : ℕ) → (n ≡ 1 → ⊥) → tag_name n ≡ temp ++ numeral n
 tag_later n e = ap (λ b. 95 ∷ 116 ∷ 101 ∷ 109 ∷ 112 ∷ cond b [] (numeral n)) (ne_eqb n 1 e)
 
 -- a number is tried, and the next
-pub free_stop : (k : ℕ) (names : Bytes → Bool) (n : ℕ) → names (tag_name n) ≡ false → free_tag (suc k) names n ≡ n
+free_stop : (k : ℕ) (names : Bytes → Bool) (n : ℕ) → names (tag_name n) ≡ false → free_tag (suc k) names n ≡ n
 free_stop k names n e = ap (λ b. elim b [ true ↦ free_tag k names (suc n) | false ↦ n ]) e
 
-pub free_on : (k : ℕ) (names : Bytes → Bool) (n : ℕ) → names (tag_name n) ≡ true → free_tag (suc k) names n ≡ free_tag k names (suc n)
+free_on : (k : ℕ) (names : Bytes → Bool) (n : ℕ) → names (tag_name n) ≡ true → free_tag (suc k) names n ≡ free_tag k names (suc n)
 free_on k names n e = ap (λ b. elim b [ true ↦ free_tag k names (suc n) | false ↦ n ]) e
 
--- the same, by the tries that are left
-pub tries_stop : (k : ℕ) (names : Bytes → Bool) (n : ℕ) → 0 < k → names (tag_name n) ≡ false → free_tag k names n ≡ n
-tries_stop zero names n h e = absurd (omega arith)
-tries_stop (suc k) names n h e = free_stop k names n e
+-- the first number from n on whose tag is free, among k
+free_at : (k : ℕ) (names : Bytes → Bool) (n i : ℕ) → n ≤ i → i < n + k → names (tag_name i) ≡ false → ((j : ℕ) → n ≤ j → j < i → names (tag_name j) ≡ true) → free_tag k names n ≡ i
+free_at zero names n i l h f before = absurd (omega arith)
+free_at (suc k) names n i l h f before = elim (cases_eq n i) [
+  | inl e ↦ free_stop k names n (subst (λ m. names (tag_name m) ≡ false) (sym e) f) ∙ e
+  | inr e ↦ free_on k names n (before n (omega arith) (omega arith)) ∙ free_at k names (suc n) i (omega arith) (omega arith) f (λ j a b. before j (omega arith) b)
+]
 
-pub tries_on : (k : ℕ) (names : Bytes → Bool) (n : ℕ) → 0 < k → names (tag_name n) ≡ true → free_tag (k - 1) names (n + 1) ≡ free_tag k names n
-tries_on zero names n h e = absurd (omega arith)
-tries_on (suc k) names n h e = rw (sub-one, add-one) (sym (free_on k names n e))
+-- none is
+free_none : (k : ℕ) (names : Bytes → Bool) (n : ℕ) → ((j : ℕ) → n ≤ j → j < n + k → names (tag_name j) ≡ true) → free_tag k names n ≡ n + k
+free_none zero names n all = omega arith
+free_none (suc k) names n all = free_on k names n (all n (omega arith) (omega arith)) ∙ free_none k names (suc n) (λ j a b. all j (omega arith) (omega arith)) ∙ omega arith
+
+-- what a look for it answers
+pub first_free : (k : ℕ) (names : Bytes → Bool) (n e : ℕ) (r : Option ℕ) → e ≡ n + k
+    → MatchOption r ((j : ℕ) → n ≤ j → j < e → names (tag_name j) ≡ true) (λ i. (n ≤ i) × (i < e) × (names (tag_name i) ≡ false) × ((j : ℕ) → n ≤ j → j < i → names (tag_name j) ≡ true))
+    → free_tag k names n ≡ unwrap_or r e
+first_free k names n e None is h = free_none k names n (λ j a b. h j a (omega arith)) ∙ sym is
+first_free k names n e (Some i) is h = free_at k names n i h.0 (omega arith) h.2 h.3
 
 -- one try more than there are identifiers and rows
 pub tries_first : (t : Tables) → WellFormed t → free_tag (t.counts.identifiers + t.counts.instructions + 1) (known (view t)) (t.counts.tag_mark + 1) ≡ next_tag (view t)
@@ -47,21 +57,10 @@ tries_first t w =
     let r : t.counts.instructions ≡ (view t).used_rows = sym (ap (λ (c : Counts). c.instructions) sized) in
     (λ k. free_tag (i k + r k + 1) (known (view t)) (t.counts.tag_mark + 1)) ∙ (λ k. free_tag (add-one (length (view t).identifiers + (view t).used_rows) k) (known (view t)) (add-one t.counts.tag_mark k))
 
-pub length_tag : (n : ℕ) → n < 2 ^ 32 → length (tag_name n) ≤ 15
-length_tag n h = elim (cases_eq n 1) [
-  | inl e ↦ let l = ap length (tag_first n e) in omega arith
-  | inr e ↦ let l = ap length (tag_later n e) in let k = length-append temp (numeral n) in let m = length_numeral_le n h in omega arith
-]
-
-pub tag_some : (n : ℕ) → 0 < length (tag_name n)
-tag_some n = omega arith
-
 -- the view with one tag more
 abbrev tagged_by : Hir → ℕ → ℕ → Hir
 tagged_by h c n = record { identifiers = h.identifiers; functions = h.functions; bears = h.bears; used_rows = h.used_rows; counter = c; mark = n; text = h.text }
 
-pub view_tag : (t : Tables) (w : WellFormed t) → Room t.counts.text (length (tag_name (next_tag (view t)))) (length t.text) text_limit
+pub view_tag : (t : Tables) → view (with_text t (tag_name (next_tag (view t)))) ≡ write (view t) (tag_name (next_tag (view t)))
     → view (with_tag (with_text t (tag_name (next_tag (view t)))) (next_tag (view t))) ≡ take_tag (view t)
-view_tag t w room =
-    let made : Bytes = tag_name (next_tag (view t)) in
-    (λ i. tagged_by (view_text t w made room i) ((view t).counter + 1) (next_tag (view t))) ∙ (λ i. tagged_by (write (view t) made) (add-one (view t).counter i) (next_tag (view t)))
+view_tag t e = (λ i. tagged_by (e i) ((view t).counter + 1) (next_tag (view t))) ∙ (λ i. tagged_by (write (view t) (tag_name (next_tag (view t)))) (add-one (view t).counter i) (next_tag (view t)))

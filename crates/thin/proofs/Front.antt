@@ -1,16 +1,18 @@
 -- Rows that stay, one row more: the tables while they are gathered, and what the whole gives.
-use Rattle.std.proofs.Common.{◌≡◌, ℕ, zero, suc, ◌+◌, ◌<◌, ◌≤◌, Bool, true, false, ◌≢◌, List, [], ◌∷◌, ◌++◌, map, length, get_or, take, set, sym, refl, ap, ◌∙◌, subst, append-nil, arith, length-take-le}
+use Rattle.std.proofs.Common.{◌≡◌, ℕ, zero, suc, ◌+◌, ◌-◌, ◌<◌, ◌≤◌, Bool, true, false, ◌≢◌, List, [], ◌∷◌, ◌++◌, map, length, get_or, take, set, sym, refl, ap, ◌∙◌, subst, append-nil, arith, length-take-le}
 use lib.Seq.{paste, length-paste}
 use Rattle.std.specs.List.{AllByRecursion}
-use Rattle.std.proofs.lemmas.List.{get_or_default, take_more}
+use Rattle.std.proofs.lemmas.List.{get_or_default, take_more, take_all}
 use Rattle.std.proofs.ByRecursion.{All-get_or, All-from_get_or}
 use Rattle.rules.specs.Lists.{select}
 use Rattle.rules.specs.Views.{InstructionV}
 use Rattle.hir.specs.Used.{in_run}
-use Rattle.hir.specs.Tables.{Tables}
+use Rattle.hir.specs.declared.rows.Run.{Run}
+use Rattle.hir.specs.declared.rows.Store.{Store}
+use Rattle.hir.specs.Tables.{Tables, tables, Held}
 use Rattle.hir.specs.View.{rows, instruction_at}
 use Rattle.hir.specs.WellFormed.{Pairwise, Unlike, Readable}
-use Rattle.hir.proofs.Runs.{run_of, getD_run, length_run, getD_paste_after, pasted_both, set_paste}
+use Rattle.hir.proofs.Runs.{getD_run, length_run, getD_paste_after, pasted_both, set_paste}
 use Rattle.thin.specs.Kept.{kept_of, rewritten}
 
 -- Lists with some elements left out.
@@ -69,48 +71,72 @@ pub map_select : {A B : Type 0} (f : A → B) (p : B → Bool) (xs : List A) →
 map_select f p [] = refl
 map_select f p (x ∷ xs) = elim (p (f x)) as (λ b. map f (elim b [ true ↦ x ∷ select (λ x. p (f x)) xs | false ↦ select (λ x. p (f x)) xs ]) ≡ elim b [ true ↦ f x ∷ select p (map f xs) | false ↦ select p (map f xs) ]) [ true ↦ ap (λ v. f x ∷ v) (map_select f p xs) | false ↦ map_select f p xs ]
 
--- While the rows of a run are gathered.
-module _ (test : InstructionV → Bool) (t : Tables) (first count i : ℕ) (fits : first + count ≤ length t.numbers) where
+-- While the rows of a run are gathered: of those before the i-th number of the table, these stay.
+abbrev pub so_far : (InstructionV → Bool) → Tables → Run → ℕ → List ℕ
+so_far test t run i = kept_of test t (take (i - run.first) (in_run t.numbers run))
+
+-- they are at the front of the run
+pub record Gathered (test : InstructionV → Bool) (before after : Store) (run : Run) (i e : ℕ) : Type 0 where
+  pub writes : tables after ≡ rewritten (tables before) run.first (so_far test (tables before) run i)
+  pub end : e ≡ run.first + length (so_far test (tables before) run i)
+  pub behind : e ≤ i
+  pub held : Held after before
+
+module _ (test : InstructionV → Bool) (t : Tables) (run : Run) (fits : run.first + run.count ≤ length t.numbers) where
   abbrev list : List ℕ
-  list = in_run t.numbers (run_of first count)
+  list = in_run t.numbers run
 
-  abbrev pub so_far : List ℕ
-  so_far = kept_of test t (take i list)
+  list_size : length list ≡ run.count
+  list_size = length_run run t.numbers fits
 
-  list_size : length list ≡ count
-  list_size = length_run (run_of first count) t.numbers fits
+  pub none_so_far : so_far test t run run.first ≡ []
+  none_so_far = let e : run.first - run.first ≡ 0 = omega arith in ap (λ k. kept_of test t (take k list)) e
 
-  pub so_far_le : i ≤ count → length so_far ≤ i
-  so_far_le h = let l = length_select (λ n. test (instruction_at (rows t) n)) (take i list) in let m : length (take i list) ≡ i = length-take-le i list (omega (arith, list_size)) in omega arith
+  pub all_so_far : (i : ℕ) → run.first + run.count ≤ i → so_far test t run i ≡ kept_of test t list
+  all_so_far i h = ap (kept_of test t) (take_all (i - run.first) list (omega (arith, list_size)))
 
-  -- the row at i is still where it was
-  pub row_read : i < count → get_or (paste t.numbers first so_far (length so_far)) (first + i) 0 ≡ get_or t.numbers (first + i) 0
-  row_read h = let l = so_far_le (omega arith) in getD_paste_after t.numbers first so_far (length so_far) (first + i) 0 (omega arith) (omega arith) (omega arith)
+  module _ (i : ℕ) (from : run.first ≤ i) (h : i < run.first + run.count) where
+    abbrev xs : List ℕ
+    xs = so_far test t run i
 
-  row_listed : i < count → get_or list i 0 ≡ get_or t.numbers (first + i) 0
-  row_listed h = getD_run (run_of first count) t.numbers i 0 h
+    -- the number at i, and its row
+    abbrev n : ℕ
+    n = get_or t.numbers i 0
 
-  pub row_used : (P : ℕ → Type 0) → AllByRecursion P list → i < count → P (get_or t.numbers (first + i) 0)
-  row_used P a h = subst P (row_listed h) (All-get_or P list i 0 (omega (arith, list_size)) a)
+    so_far_le : run.first + length xs ≤ i
+    so_far_le = let l = length_select (λ m. test (instruction_at (rows t) m)) (take (i - run.first) list) in let m : length (take (i - run.first) list) ≡ i - run.first = length-take-le (i - run.first) list (omega (arith, list_size)) in omega arith
 
-  more : i < count → kept_of test t (take (i + 1) list) ≡ so_far ++ kept_of test t (get_or t.numbers (first + i) 0 ∷ [])
-  more h = ap (kept_of test t) (take_more list i 0 (omega (arith, list_size))) ∙ select_append (λ n. test (instruction_at (rows t) n)) (take i list) (get_or list i 0 ∷ []) ∙ ap (λ n. so_far ++ kept_of test t (n ∷ [])) (row_listed h)
+    size : length (paste t.numbers run.first xs (length xs)) ≡ length t.numbers
+    size = length-paste t.numbers run.first xs (length xs) (omega (arith, so_far_le)) (omega arith)
 
-  pub stays_more : i < count → test (instruction_at (rows t) (get_or t.numbers (first + i) 0)) ≡ true → kept_of test t (take (i + 1) list) ≡ so_far ++ (get_or t.numbers (first + i) 0 ∷ [])
-  stays_more h e = more h ∙ ap (λ v. so_far ++ v) (select_one (λ n. test (instruction_at (rows t) n)) (get_or t.numbers (first + i) 0) e)
+    -- it is still where it was
+    pub row_read : get_or (paste t.numbers run.first xs (length xs)) i 0 ≡ n
+    row_read = getD_paste_after t.numbers run.first xs (length xs) i 0 so_far_le (omega arith) (omega arith)
 
-  pub goes_more : i < count → test (instruction_at (rows t) (get_or t.numbers (first + i) 0)) ≡ false → kept_of test t (take (i + 1) list) ≡ so_far
-  goes_more h e = more h ∙ ap (λ v. so_far ++ v) (select_none (λ n. test (instruction_at (rows t) n)) (get_or t.numbers (first + i) 0) e) ∙ append-nil so_far
+    row_listed : get_or list (i - run.first) 0 ≡ n
+    row_listed = getD_run run t.numbers (i - run.first) 0 (omega arith) ∙ (let e : run.first + (i - run.first) ≡ i = omega arith in ap (λ k. get_or t.numbers k 0) e)
 
-  -- it is written behind those that stayed
-  pub written_more : (n : ℕ) → i < count → set (paste t.numbers first so_far (length so_far)) (first + length so_far) n ≡ paste t.numbers first (so_far ++ (n ∷ [])) (length (so_far ++ (n ∷ [])))
-  written_more n h =
-      let l = so_far_le (omega arith) in
-      let size : length (paste t.numbers first so_far (length so_far)) ≡ length t.numbers = length-paste t.numbers first so_far (length so_far) (omega arith) (omega arith) in
-      set_paste (paste t.numbers first so_far (length so_far)) (first + length so_far) n (omega arith) ∙ pasted_both t.numbers first (length so_far) so_far (n ∷ []) refl (omega arith)
+    pub row_used : (P : ℕ → Type 0) → AllByRecursion P list → P n
+    row_used P a = subst P row_listed (All-get_or P list (i - run.first) 0 (omega (arith, list_size)) a)
 
-  pub readable_still : i ≤ count → Readable t → Readable (rewritten t first so_far)
-  readable_still h w =
-      let l = so_far_le h in
-      let size : length (paste t.numbers first so_far (length so_far)) ≡ length t.numbers = length-paste t.numbers first so_far (length so_far) (omega arith) (omega arith) in
-      record { counted = let c = w.counted in record { text = c.text; identifiers = c.identifiers; places = c.places; instructions = c.instructions; numbers = record { in_table = omega (arith, c.numbers.in_table); in_limit = c.numbers.in_limit }; blocks = c.blocks; functions = c.functions }; places = w.places; instructions = w.instructions }
+    more : so_far test t run (i + 1) ≡ xs ++ kept_of test t (n ∷ [])
+    more =
+        (let e : i + 1 - run.first ≡ i - run.first + 1 = omega arith in ap (λ k. kept_of test t (take k list)) e)
+        ∙ ap (kept_of test t) (take_more list (i - run.first) 0 (omega (arith, list_size)))
+        ∙ select_append (λ m. test (instruction_at (rows t) m)) (take (i - run.first) list) (get_or list (i - run.first) 0 ∷ [])
+        ∙ ap (λ m. xs ++ kept_of test t (m ∷ [])) row_listed
+
+    pub stays_more : test (instruction_at (rows t) n) ≡ true → so_far test t run (i + 1) ≡ xs ++ (n ∷ [])
+    stays_more e = more ∙ ap (λ v. xs ++ v) (select_one (λ m. test (instruction_at (rows t) m)) n e)
+
+    pub goes_more : test (instruction_at (rows t) n) ≡ false → so_far test t run (i + 1) ≡ xs
+    goes_more e = more ∙ ap (λ v. xs ++ v) (select_none (λ m. test (instruction_at (rows t) m)) n e) ∙ append-nil xs
+
+    -- it is written behind those that stayed
+    pub written_more : set (paste t.numbers run.first xs (length xs)) (run.first + length xs) n ≡ paste t.numbers run.first (xs ++ (n ∷ [])) (length (xs ++ (n ∷ [])))
+    written_more =
+        set_paste (paste t.numbers run.first xs (length xs)) (run.first + length xs) n (omega (arith, so_far_le, size))
+        ∙ pasted_both t.numbers run.first (length xs) xs (n ∷ []) refl (omega arith)
+
+    pub readable_still : Readable t → Readable (rewritten t run.first xs)
+    readable_still w = record { counted = let c = w.counted in record { text = c.text; identifiers = c.identifiers; places = c.places; instructions = c.instructions; numbers = record { in_table = omega (arith, c.numbers.in_table, size); in_limit = c.numbers.in_limit }; blocks = c.blocks; functions = c.functions }; places = w.places; instructions = w.instructions }

@@ -14,7 +14,7 @@ use Rattle.hir.specs.Frame.{Kept}
 use Rattle.hir.proofs.Runs.{run_used, length_run}
 use Rattle.hir.proofs.Growth.{sizes_are}
 use Rattle.hir.proofs.Listed.{numbers_sized, block_used, block_is, block_fits_at, view_thinned, well_thinned, kept_thinned}
-use Rattle.hir.proofs.Seen.{list_seen, list_listed}
+use Rattle.hir.proofs.Seen.{legible, list_seen, list_listed}
 use Rattle.thin.specs.Kept.{kept_numbers}
 use Rattle.thin.proofs.Front.{length_select, all_select, unlike_select, once_select, map_select}
 
@@ -36,7 +36,7 @@ module _ (test : InstructionV → Bool) (t : Tables) (w : WellFormed t) (f k : �
   thinned_short = let l = length_select p list in let m = length_run run (rows t).numbers (omega (arith, numbers_sized t w f k has, (block_fits_at t w f k has).instructions)) in omega arith
 
   thinned_fits : ListFits t (kept_numbers test t f k)
-  thinned_fits = record { listed = all_select p (λ n. n < t.counts.instructions) list (list_listed t w f k has); once = once_select p list (block_fits_at t w f k has).once }
+  thinned_fits = record { listed = all_select p (λ n. n < t.counts.instructions) list (list_listed t (legible t w) f has.function k has.block); once = once_select p list (block_fits_at t w f k has).once }
 
   thinned_unlisted : UnlistedBut t (block_number t f k) (kept_numbers test t f k)
   thinned_unlisted i h ne =
@@ -48,7 +48,7 @@ module _ (test : InstructionV → Bool) (t : Tables) (w : WellFormed t) (f k : �
       (subst (λ (b : BasicBlock). Unlike (in_run (rows t).numbers (get_or (rows t).blocks i null_block).instructions) (in_run (rows t).numbers b.instructions)) (block_is t w f k has (block_number t f k) u) a.rows))
 
   pub thinned_seen : view (with_thinned_list t f k (kept_numbers test t f k)) ≡ with_list (view t) f k (select test (rows_at (view t) f k))
-  thinned_seen = view_thinned t w f k has (kept_numbers test t f k) thinned_short ∙ ap (with_list (view t) f k) (map_select (instruction_at (rows t)) test list ∙ ap (select test) (sym (list_seen t w f k has)))
+  thinned_seen = view_thinned t w f k has (kept_numbers test t f k) thinned_short ∙ ap (with_list (view t) f k) (map_select (instruction_at (rows t)) test list ∙ ap (select test) (sym (list_seen t (legible t w) f has.function k has.block)))
 
   pub thinned_well : WellFormed (with_thinned_list t f k (kept_numbers test t f k))
   thinned_well = well_thinned t w f k has (kept_numbers test t f k) thinned_short thinned_fits thinned_unlisted

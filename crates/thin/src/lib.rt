@@ -15,9 +15,10 @@ ghost use Rattle.hir.specs.Lists.{with_thinned_list, HasBlock};
 ghost use Rattle.hir.specs.Frame.{Becomes};
 ghost use Rattle.thin.specs.Kept.{kept_numbers, kept_of, rewritten};
 
-use hir::{FunctionId, InstructionId, Run, Store};
+use hir::{FormedStore, FunctionId, InstructionId, Run, Store};
 
-// What decides of each row whether it stays.
+// What decides of each row whether it stays. A trait and no closure: a clause names the test of each implementor, where of a closure it
+// knows only what the calls answered.
 pub trait Keeps {
     // the rows that stay
     ghost test: { Self → InstructionV → Bool };
@@ -26,11 +27,14 @@ pub trait Keeps {
     ghost ready: { Self → Counts → Type 0 };
 
     fn keeps(&self, store: &Store<'_>, row: InstructionId) -> bool
-        requires { (Readable (tables store.now)) × ((row.0 < store.now.counts.instructions) × (ready self.now store.now.counts)) }
+        requires readable { Readable (tables store.now) }
+        requires used { row.0 < store.now.counts.instructions }
+        requires ready { ready self.now store.now.counts }
         ensures { result ≡ test self.now (instruction_at (rows (tables store.now)) row.0) };
 }
 
-// Moves the numbers of the rows that stay to the front of the run, and answers how many there are.
+// Moves the numbers of the rows that stay to the front of the run, and answers how many there are. Each row is asked about with the whole
+// store, so the loop goes over the table's indices: an iterator over the run would hold the table.
 fn gather_kept<K: Keeps>(store: &mut Store<'_>, run: Run, keep: &K) -> u32
     requires readable { Readable (tables store.old) }
     requires fits { run.first + run.count ≤ length store.old.numbers.now }
@@ -42,18 +46,18 @@ fn gather_kept<K: Keeps>(store: &mut Store<'_>, run: Run, keep: &K) -> u32
     ensures held { Held store.new store.old }
 {
     let first = run.first as usize;
-    let count = run.count as usize;
-    let mut front = 0usize;
-    for i in 0..count {
-        let row = store.numbers[first + i];
+    let mut end = first;
+    for i in first..first + run.count as usize {
+        let row = store.numbers[i];
         if keep.keeps(store, InstructionId(row)) {
-            store.numbers[first + front] = row;
-            front += 1;
+            store.numbers[end] = row;
+            end += 1;
         }
     }
-    front as u32
+    (end - first) as u32
 }
 
+#[tactic(auto, using(hir::proofs::Listed::block_used))]
 fn write_thinned<K: Keeps>(store: &mut Store<'_>, function: FunctionId, k: u32, keep: &K)
     requires well { WellFormed (tables store.old) }
     requires has { HasBlock (tables store.old) function.0 k }
@@ -68,11 +72,10 @@ fn write_thinned<K: Keeps>(store: &mut Store<'_>, function: FunctionId, k: u32, 
 }
 
 // Leaves the k-th block of a function the rows that are to stay, in their order.
-pub fn thin_block_list<K: Keeps>(store: &mut Store<'_>, function: FunctionId, k: u32, keep: &K)
-    requires well { WellFormed (tables store.old) }
+pub fn thin_block_list<K: Keeps>(store: &mut FormedStore<'_>, function: FunctionId, k: u32, keep: &K)
     requires has { HasBlock (tables store.old) function.0 k }
     requires ready { K.Keeps.ready keep.now store.old.counts }
     ensures does { Becomes store.old store.new (with_thinned_list (tables store.old) function.0 k (kept_numbers (K.Keeps.test keep.now) (tables store.old) function.0 k)) (with_list (view (tables store.old)) function.0 k (select (K.Keeps.test keep.now) (rows_at (view (tables store.old)) function.0 k))) }
 {
-    write_thinned(store, function, k, keep)
+    write_thinned(&mut store.lent, function, k, keep)
 }

@@ -1,58 +1,48 @@
-use super::command::{Command, Form, parse};
+use super::command::{Command, parse};
 use super::failure::Failure;
 use comma_lines::read;
+use hir::Store;
 use quote::{Cents, Items, Rates, quote, worked_example};
 use screen::Screen;
-use screen_text::{dump, show};
+use screen_text::{PrintError, dump, show};
+use std::alloc::Global;
 use std::io::Write;
 use std::{env, io};
 
 pub fn run(rt: &HostRuntime) -> Result<(), Failure> {
     let words = words_of(rt)?;
     match parse(rt.alloc(), words.as_slice())? {
-        Command::Print(form) => run_print(rt, form),
+        Command::Show => run_print(rt, show),
+        Command::Dump => run_print(rt, dump),
         Command::Quote(items, rates) => run_quote(rt, items, rates),
         Command::Help => run_help(rt),
     }
 }
 
 fn words_of(rt: &HostRuntime) -> Result<Vec<String>, Failure> {
-    let mut words = Vec::new(rt.alloc());
-    let args = match env::args(rt) {
-        Ok(args) => args,
-        Err(error) => return Err(Failure::Input(error)),
-    };
-    for word in args {
-        words.push(word)?;
-    }
-    Ok(words)
+    let args = env::args(rt).map_err(Failure::Input)?;
+    Ok(args.collect(rt.alloc())?)
 }
 
 fn read_screen(rt: &HostRuntime) -> Result<Screen, Failure> {
-    match io::read_to_string(rt.alloc(), rt.stdin()) {
-        Ok(text) => Ok(read(rt.alloc(), text.as_str())?),
-        Err(error) => Err(Failure::Input(error)),
-    }
+    let text = io::read_to_string(rt.alloc(), rt.stdin()).map_err(Failure::Input)?;
+    Ok(read(rt.alloc(), text.as_str())?)
 }
 
-fn run_print(rt: &HostRuntime, form: Form) -> Result<(), Failure> {
+// Reads a screen, and writes the text that `print` makes of it.
+fn run_print<F>(rt: &HostRuntime, print: F) -> Result<(), Failure>
+where
+    F: FnOnce(Global, &Store<'_>) -> Result<Vec<u8>, PrintError>,
+    requires { F.IsAlwaysCallable print }
+{
     let mut screen = read_screen(rt)?;
-    let Some(counts) = screen.counts() else {
-        return Err(Failure::TooLarge);
-    };
-    let store = screen.lend(counts);
-    let text = match form {
-        Form::Shown => show(rt.alloc(), &store)?,
-        Form::Dumped => dump(rt.alloc(), &store)?,
-    };
+    let counts = screen.counts().ok_or(Failure::TooLarge)?;
+    let text = print(rt.alloc(), &screen.lend(counts))?;
     put(rt, text.as_slice())
 }
 
 fn put(rt: &HostRuntime, bytes: &[u8]) -> Result<(), Failure> {
-    match rt.stdout().write_all(bytes) {
-        Ok(()) => Ok(()),
-        Err(error) => Err(Failure::Output(error)),
-    }
+    rt.stdout().write_all(bytes).map_err(Failure::Output)
 }
 
 fn run_quote(rt: &HostRuntime, items: Items, rates: Rates) -> Result<(), Failure> {

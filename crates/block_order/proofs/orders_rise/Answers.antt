@@ -1,22 +1,18 @@
-use Rattle.std.proofs.Common.{◌-◌, arith}
+use Rattle.std.proofs.Common.{rules}
 use Rattle.hir.specs.Tables.{tables}
-use Rattle.hir.specs.View.{rows}
-use Rattle.block_order.proofs.Neighbours.{rise_all, rises_at, from_rows, to_rows, rise_more}
+use Rattle.hir.specs.View.{instruction_at, rows}
+use Rattle.refusals.proofs.Chains.{called_at_each, all_tells}
+use Rattle.block_order.proofs.Pairs.{pairs, YieldsList-from_pairs, BothUsed, pairs_used, After, rising_tells}
 use Rattle.block_order.proofs.orders_rise.Goals as goal
 
-pub returns-then-not-comes_after : goal.returns-then-not-comes_after
-returns-then-not-comes_after c =
-    let r = rows (tables c.args.store.now) in
-    let list = c.args.list.now in
-    let k = c.loop-k.k in
-    λ h. c.if-not-comes_after.ensures (to_rows r list k c.listed_row-before.result c.listed_row-after.result (omega (arith, c.loop-k.auto.k)) c.listed_row-before.ensures.seen c.listed_row-after.ensures.seen (rises_at r list h (k - 1) (omega (arith, c.loop-k.auto.k))))
-
-pub loop-k-preserved : goal.loop-k-preserved
-loop-k-preserved c =
-    let r = rows (tables c.args.store.now) in
-    let list = c.args.list.now in
-    let k = c.loop-k.k in
-    rise_more r list k (omega (arith, c.loop-k.auto.k)) c.loop-k.invariant (from_rows r list k c.listed_row-before.result c.listed_row-after.result (omega (arith, c.loop-k.auto.k)) c.listed_row-before.ensures.seen c.listed_row-after.ensures.seen c.if-not-comes_after.ensures)
+pub all-requires-clause-callable : goal.all-requires-clause-callable
+all-requires-clause-callable c =
+    let l = c.args.list in
+    let n = l.store.now.counts.instructions in
+    called_at_each (BothUsed n) (pairs l.numbers.now) (pairs_used n l.numbers.now l.listed) (YieldsList-from_pairs l.numbers.now c.windows.result (cc) (cc)) (λ x q h. search rules) (λ x u. search rules)
 
 pub returns : goal.returns
-returns c = rise_all (rows (tables c.args.store.now)) c.args.list.now (λ j h. c.loop-k.invariant j (omega arith))
+returns c =
+    let l = c.args.list in
+    let f = instruction_at (rows (tables l.store.now)) in
+    rising_tells f l.numbers.now c.all.result (all_tells (After f) (λ w. w) _ _ c.all.result c.all.ensures.ran (YieldsList-from_pairs l.numbers.now c.windows.result (cc) (cc)) (λ x b q h. search rules))

@@ -10,7 +10,6 @@ returns g c =
     let e = c.eliminate.ensures.does in
     record {
       seen = e.seen ∙ ap (λ (h : Hir). eliminated g.E.Elimination.meaning h c.args.function.0) b.seen;
-      well = e.well;
       kept = kept_then b.kept e.kept;
       held = held_then e.held b.held;
       clear = c.eliminate.ensures.clear;

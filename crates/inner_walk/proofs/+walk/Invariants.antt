@@ -1,26 +1,28 @@
-use Rattle.std.proofs.Common.{ℕ, ◌-◌, ◌≤◌, List, length, drop}
-use Rattle.rules.specs.Views.{function_at}
-use Rattle.rules.specs.Drawn.{inner_of}
+use Rattle.std.proofs.Common.{◌+◌, ◌-◌, ◌*◌, ◌<◌, drop}
+use Rattle.std.specs.List.{AllByRecursion}
+use Rattle.std.specs.Iterator.Adapters.{rev_source}
+use Rattle.std.specs.Slice.Iter.{iter_rest}
+use Rattle.rules.specs.Lists.{backwards}
+use Rattle.rules.specs.Drawn.{inner, inner_of}
 use Rattle.hir.specs.Tables.{tables}
-use Rattle.hir.specs.View.{rows, view}
-use Rattle.inner_walk.proofs.Going.{Going, left_of}
+use Rattle.hir.specs.View.{instructions_at, rows, view}
+use Rattle.reading.specs.Stored.{function_seen, rows_in}
+use Rattle.inner_walk.proofs.Going.{Going}
 use Rattle.inner_walk.proofs.+walk.Given as goal
 
+-- walk_rows calls walk at its own depth, and walk calls walk_rows one level down
 abbrev pub decreases-walk : goal.decreases-walk
-decreases-walk l = l.depth
+decreases-walk l = 2 * l.depth
 
--- from where the loop began, the inner functions of the blocks so far were gone through
-abbrev pub invariant-loop-k : goal.invariant-loop-k
-invariant-loop-k l =
-    (before : List ℕ) → Going (l.depth - 1) (view (tables l.store)) l.function.0 (inner_of (function_at (view (tables l.store)) l.function.0).blocks) before l.initial.reached
-    → Going (l.depth - 1) (view (tables l.store)) l.function.0 (inner_of (drop l.k (function_at (view (tables l.store)) l.function.0).blocks)) before l.reached
+abbrev pub decreases-walk_rows : goal.decreases-walk_rows
+decreases-walk_rows l = 2 * l.depth + 1
 
--- and of the rows from j on
-abbrev pub invariant-loop-j : goal.invariant-loop-j
-invariant-loop-j l =
-    (l.j ≤ length l.list)
-    × ((before : List ℕ) → Going (l.depth - 1) (view (tables l.store)) l.function.0 (left_of (rows (tables l.store)) (view (tables l.store)) l.function.0 l.k l.list (length l.list)) before l.initial.reached
-    → Going (l.depth - 1) (view (tables l.store)) l.function.0 (left_of (rows (tables l.store)) (view (tables l.store)) l.function.0 l.k l.list l.j) before l.reached)
+-- the inner functions of the blocks from k on are left
+abbrev pub invariant-walk-loop-k : goal.invariant-walk-loop-k
+invariant-walk-loop-k l = Going (l.depth - 1) (view (tables l.function.store.now)) (inner_of (function_seen l.function).blocks) (inner_of (drop l.k (function_seen l.function).blocks)) l.initial.reached l.reached
 
-abbrev pub decreases-loop-j : goal.decreases-loop-j
-decreases-loop-j l = l.j
+-- those of the rows that the iterator has left
+abbrev pub invariant-walk_rows-loop-number : goal.invariant-walk_rows-loop-number
+invariant-walk_rows-loop-number l =
+    AllByRecursion (λ n. n < l.list.store.now.counts.instructions) (iter_rest (rev_source l.number-iterator))
+    × Going l.depth (view (tables l.list.store.now)) (inner (backwards (rows_in l.list))) (inner (backwards (instructions_at (rows (tables l.list.store.now)) (iter_rest (rev_source l.number-iterator))))) l.initial.reached l.reached

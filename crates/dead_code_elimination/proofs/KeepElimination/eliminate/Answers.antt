@@ -10,6 +10,6 @@ returns c =
     let s = c.args._store.now in
     let f = c.args._function.0 in
     record {
-      does = record { seen = sym (eliminated_keep (view (tables s)) f); well = c.requires.well; kept = kept_same (tables s); only = only_same (tables s) f; held = held_same s };
+      does = record { seen = sym (eliminated_keep (view (tables s)) f); kept = kept_same (tables s); only = only_same (tables s) f; held = held_same s };
       clear = c.requires.zero;
     }

@@ -1,6 +1,5 @@
-use Rattle.std.proofs.Common.{rules}
 use Rattle.laws.proofs.what_stays.stays_whole.Goals as goal
 use Rattle.laws.proofs.Outside.{what_is_outside_stays}
 
-pub returns : goal.returns
-returns c = record { outside = search rules; stays = what_is_outside_stays }
+pub returns-clause-stays : goal.returns-clause-stays
+returns-clause-stays c = what_is_outside_stays

@@ -1,27 +1,20 @@
-use Rattle.std.proofs.Common.{◌++◌, length, sym, ap, ◌∙◌, subst, arith, length-append}
-use Rattle.rules.specs.Views.{Bytes}
+use Rattle.std.proofs.Common.{◌≡◌, ◌-◌, ◌++◌, length, arith, length-append, rules}
 use Rattle.rules.specs.Names.{numeral}
-use Rattle.hir.specs.declared.rows.Counts.{Counts}
-use Rattle.hir.specs.Tables.{Tables, tables}
-use Rattle.hir.specs.View.{spelt, view}
-use Rattle.hir.specs.WellFormed.{NameFits, Room, text_limit}
-use Rattle.hir.proofs.Calls.{becomes}
-use Rattle.hir.proofs.Laws.{view_text, well_text}
-use Rattle.hir.proofs.Frames.{kept_text}
-use Rattle.names.proofs.Naming.{made_fits, spelt_made}
+use Rattle.names.proofs.Naming.{appended}
+use Rattle.names.proofs.Pasted.{copied_before}
 use Rattle.names.proofs.made.append_numbered.Goals as goal
 
 pub returns : goal.returns
 returns c =
-    let a = c.args in
-    let t : Tables = tables a.store.now in
-    let made : Bytes = a.prefix.now ++ numeral a.number in
-    let e = c.write_numbered.ensures in
-    let room : Room t.counts.text (length made) (length t.text) text_limit = let l = length-append a.prefix.now (numeral a.number) in record { in_table = omega (arith, c.requires.room.in_table); in_limit = omega (arith, c.requires.room.in_limit) } in
-    record {
-      at = e.at;
-      fits = subst (λ (k : Counts). NameFits k c.write_numbered.result) (sym (ap (λ (u : Tables). u.counts) e.writes)) (subst (NameFits _) (sym e.at) (made_fits t c.requires.well made room (let l = length-append a.prefix.now (numeral a.number) in omega (arith, c.requires.some))));
-      spells = (λ i. spelt (view (e.writes i)).text (e.at i)) ∙ spelt_made t c.requires.well made room;
-      does = becomes a.store.now c.write_numbered.new.store _ _ e.writes e.held
-          (view_text t c.requires.well made room) (well_text t c.requires.well made room) (kept_text t made room.in_table);
-    }
+    let s = c.store.inside.lent in
+    let p = c.args.prefix.now in
+    let k = numeral c.args.number in
+    let a = length-append p k in
+    let room = rw (← c.store.view_is) at c.requires.room in
+    let size : c.write_decimal-end.result - s.counts.text ≡ length (p ++ k) = omega (arith, c.write_decimal-end.ensures.end) in
+    let written = copied_before s.counts.text s.text.now _ p k c.write_decimal-end.new.text c.copy_from_slice.ensures.after (omega (arith, room.in_table)) c.write_decimal-end.ensures.text in
+    rw (← c.store.view_is) (appended s _ (p ++ k) _ c.store.invariant (record { in_table = omega (arith, room.in_table); in_limit = omega (arith, room.in_limit) }) (omega (arith, c.requires.some))
+    (search (rules, size)) (search (rules, size, written)) (search rules))
+
+pub invariant_of-store : goal.invariant_of-store
+invariant_of-store c = (returns c).does.well

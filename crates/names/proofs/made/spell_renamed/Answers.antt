@@ -1,35 +1,26 @@
-use Rattle.std.proofs.Common.{◌≡◌, ℕ, ◌+◌, ◌-◌, List, ◌++◌, length, sym, ap, ◌∙◌, subst, arith, length-append, rules}
-use lib.Seq.{paste}
+use Rattle.std.proofs.Common.{◌≡◌, ◌+◌, length, take, drop, sym, ap, ◌∙◌, ◌-◌, refl, arith}
 use Rattle.rules.specs.Views.{Bytes}
 use Rattle.rules.specs.Names.{numeral}
-use Rattle.hir.specs.declared.rows.Name.{Name}
-use Rattle.hir.specs.Tables.{Tables, tables, hold_text}
+use lib.Seq.{paste}
+use Rattle.hir.specs.Tables.{tables, hold_text}
 use Rattle.hir.specs.View.{spelt, view}
-use Rattle.hir.specs.WellFormed.{Room, text_limit, WellFormed}
 use Rattle.hir.proofs.Runs.{pasted_both}
-use Rattle.names.proofs.Naming.{spelt_in, length_spelt, view_spare, well_spare}
+use Rattle.names.proofs.Naming.{spelt_in, length_spelt}
+use Rattle.names.proofs.Pasted.{moved}
 use Rattle.names.proofs.made.spell_renamed.Goals as goal
 
-pub returns : goal.returns
-returns c =
-    let s = c.args.store.now in
+pub returns-clause-writes : goal.returns-clause-writes
+returns-clause-writes c =
+    let s = c.store.inside.lent in
+    let w = c.store.invariant in
+    let fits = rw (← c.store.view_is) at c.requires.fits in
+    let room = rw (← c.store.view_is) at c.requires.room in
     let b = c.args.base in
-    let t : Tables = tables s in
-    let n : ℕ = s.counts.text in
-    let own : Bytes = spelt (view t).text b in
-    let k : List ℕ = numeral c.args.number in
-    let a = length-append own k in
-    let l = length_spelt t c.requires.well b c.requires.fits in
-    let size : c.write_decimal-end.result - n ≡ length (own ++ k) = omega (arith, c.write_decimal-end.ensures.end) in
-    let written = c.write_decimal-end.ensures.text
-    ∙ ap (λ (l : List ℕ). paste l (n + b.len) k (length k)) (c.copy_onward.ensures ∙ ap (λ (l : List ℕ). paste s.text.now n l b.len) (sym (spelt_in t c.requires.well b c.requires.fits)))
-    ∙ pasted_both s.text.now n b.len own k (sym l) (omega (arith, c.requires.room.in_table)) in
-    let writes = ap (hold_text t s.counts) written in
-    let room : Room n (length (own ++ k)) (length t.text) text_limit = record { in_table = omega (arith, c.requires.room.in_table); in_limit = omega (arith, c.requires.room.in_limit) } in
-    record {
-      at = ap (λ (l : ℕ). let x : Name = record { start = n; len = l } in x) size;
-      writes = writes;
-      seen = ap view writes ∙ view_spare t c.requires.well (own ++ k) room;
-      well = subst WellFormed (sym writes) (well_spare t c.requires.well (own ++ k) room);
-      held = search rules;
-    }
+    let text = s.text.now in
+    let own : Bytes = spelt (view (tables s)).text b in
+    let k = numeral c.args.number in
+    let size : length own ≡ b.len = length_spelt (tables s) w b fits in
+    let is : own ≡ take (length own) (drop b.start text) = spelt_in (tables s) w b fits ∙ ap (λ n. take n (drop b.start text)) (sym size) in
+    let copy = c.copy_within.ensures.after ∙ ap (λ n. paste text s.counts.text (drop b.start text) (b.start + n - b.start)) (sym size) ∙ moved text b.start s.counts.text own is in
+    let written = c.write_decimal-end.ensures.text ∙ (λ i. paste (copy i) (s.counts.text + sym size i) k (length k)) ∙ pasted_both text s.counts.text (length own) own k refl (omega (arith, room.in_table)) in
+    rw (← c.store.view_is) (ap (hold_text (tables s) s.counts) written)

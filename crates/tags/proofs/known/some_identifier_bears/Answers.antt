@@ -1,23 +1,15 @@
-use Rattle.std.proofs.Common.{sym, ◌∙◌, arith}
-use Rattle.hir.specs.Tables.{Tables, tables}
-use Rattle.tags.proofs.Bearing.{or_found, or_passed, identifier_step, identifier_fits, identifiers_end}
+use Rattle.std.proofs.Common.{sym, ◌∙◌, rules}
+use borrow.Author.Tests.{tests}
+use Rattle.std.proofs.lemmas.Iterator.{YieldsList-from_slice}
+use Rattle.std.proofs.lemmas.Iterator.Search.{any_from_yields_List}
+use Rattle.hir.specs.Tables.{tables}
+use Rattle.hir.specs.View.{rows}
+use Rattle.tags.proofs.Bearing.{bears, some_bears}
 use Rattle.tags.proofs.known.some_identifier_bears.Goals as goal
 
-pub identifier_bears-requires : goal.identifier_bears-requires
-identifier_bears-requires c = record {
-  room = omega (arith, c.requires.counted.text.in_table);
-  fits = identifier_fits (tables c.args.store.now) c.requires c.args.name.now c.loop-i.i (omega arith);
-}
-
-pub returns-then-identifier_bears : goal.returns-then-identifier_bears
-returns-then-identifier_bears c =
-    let t : Tables = tables c.args.store.now in
-    or_found _ _ _ _ (sym c.identifier_bears.ensures ∙ c.if-identifier_bears.true) (identifier_step t c.requires c.args.name.now c.loop-i.i (omega arith)) c.loop-i.invariant
-
-pub loop-i-preserved : goal.loop-i-preserved
-loop-i-preserved c =
-    let t : Tables = tables c.args.store.now in
-    or_passed _ _ _ _ (sym c.identifier_bears.ensures ∙ c.if-identifier_bears.false) (identifier_step t c.requires c.args.name.now c.loop-i.i (omega arith)) c.loop-i.invariant
-
 pub returns : goal.returns
-returns c = sym (identifiers_end (tables c.args.store.now) c.requires c.args.name.now c.loop-i.i (omega arith)) ∙ c.loop-i.invariant
+returns c =
+    let r = rows (tables c.args.store.now) in
+    let n = c.args.name.now in
+    any_from_yields_List (bears n r.text) _ _ _ c.any.ensures.ran (YieldsList-from_slice r.identifiers (search rules)) (λ x b q k. search (rules, tests))
+    ∙ sym (some_bears n r.text r.identifiers)

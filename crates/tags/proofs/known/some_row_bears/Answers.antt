@@ -1,23 +1,15 @@
-use Rattle.std.proofs.Common.{sym, ◌∙◌, arith}
-use Rattle.hir.specs.Tables.{Tables, tables}
-use Rattle.tags.proofs.Bearing.{or_found, or_passed, row_step, row_fits, rows_end}
+use Rattle.std.proofs.Common.{sym, ◌∙◌, rules}
+use borrow.Author.Tests.{tests}
+use Rattle.std.proofs.lemmas.Iterator.{YieldsList-from_slice}
+use Rattle.std.proofs.lemmas.Iterator.Search.{any_from_yields_List}
+use Rattle.hir.specs.Tables.{tables}
+use Rattle.hir.specs.View.{bears_name, instruction_view, rows}
+use Rattle.tags.proofs.Bearing.{any_same}
 use Rattle.tags.proofs.known.some_row_bears.Goals as goal
 
-pub row_bears-requires : goal.row_bears-requires
-row_bears-requires c = record {
-  room = omega (arith, c.requires.counted.text.in_table);
-  fits = (row_fits (tables c.args.store.now) c.requires c.args.name.now c.loop-i.i (omega arith)).name;
-}
-
-pub returns-then-row_bears : goal.returns-then-row_bears
-returns-then-row_bears c =
-    let t : Tables = tables c.args.store.now in
-    or_found _ _ _ _ (sym c.row_bears.ensures ∙ c.if-row_bears.true) (row_step t c.requires c.args.name.now c.loop-i.i (omega arith)) c.loop-i.invariant
-
-pub loop-i-preserved : goal.loop-i-preserved
-loop-i-preserved c =
-    let t : Tables = tables c.args.store.now in
-    or_passed _ _ _ _ (sym c.row_bears.ensures ∙ c.if-row_bears.false) (row_step t c.requires c.args.name.now c.loop-i.i (omega arith)) c.loop-i.invariant
-
 pub returns : goal.returns
-returns c = sym (rows_end (tables c.args.store.now) c.requires c.args.name.now c.loop-i.i (omega arith)) ∙ c.loop-i.invariant
+returns c =
+    let r = rows (tables c.args.store.now) in
+    let n = c.args.name.now in
+    any_from_yields_List (λ x. bears_name (instruction_view r x) n) _ _ _ c.any.ensures.ran (YieldsList-from_slice r.instructions (search rules)) (λ x b q k. search (rules, tests))
+    ∙ sym (any_same _ r.instructions)
