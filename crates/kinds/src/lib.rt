@@ -1,4 +1,5 @@
-//! The kinds that the tables name by a number, with the names that people know them by.
+//! The kinds that the tables name by a number, with the names that people know them by. Each enum has its impls written out, since a macro
+//! of the repository's own may write none.
 #![tactic(auto)]
 
 ghost use Rattle.std.specs.Prelude.{◌++◌, codes, decimal, Some};

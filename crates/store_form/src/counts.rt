@@ -11,33 +11,24 @@ pub fn counts_fit(store: &Store<'_>) -> bool
     ensures { MatchBool result (Counted (tables store.now)) (Counted (tables store.now) → ⊥) }
 {
     let counts = store.counts;
-    has_room(counts.text, 0, store.text.len(), LIMITS.text as u64)
-        && has_room(
+    let tables = [
+        (counts.text, store.text.len(), LIMITS.text),
+        (
             counts.identifiers,
-            0,
             store.identifiers.len(),
-            LIMITS.identifiers as u64,
-        )
-        && has_room(counts.places, 0, store.places.len(), LIMITS.places as u64)
-        && has_room(
+            LIMITS.identifiers,
+        ),
+        (counts.places, store.places.len(), LIMITS.places),
+        (
             counts.instructions,
-            0,
             store.instructions.len(),
-            LIMITS.instructions as u64,
-        )
-        && has_room(
-            counts.numbers,
-            0,
-            store.numbers.len(),
-            LIMITS.numbers as u64,
-        )
-        && has_room(counts.blocks, 0, store.blocks.len(), LIMITS.blocks as u64)
-        && has_room(
-            counts.functions,
-            0,
-            store.functions.len(),
-            LIMITS.functions as u64,
-        )
+            LIMITS.instructions,
+        ),
+        (counts.numbers, store.numbers.len(), LIMITS.numbers),
+        (counts.blocks, store.blocks.len(), LIMITS.blocks),
+        (counts.functions, store.functions.len(), LIMITS.functions),
+    ];
+    tables.iter().all(|(used, rows, limit)| has_room(*used, 0, *rows, *limit as u64))
 }
 
 // There is room for so many rows more, in the table and below the limit.
