@@ -5,11 +5,6 @@ use Rattle.sweep.proofs.Reading.{passed_kept, passed_not, reads_are}
 use Rattle.sweep.proofs.Steps.{joined}
 use Rattle.sweep.proofs.mark.Marking.mark_row.Goals as goal
 
-pub returns-then-not-keeps : goal.returns-then-not-keeps
-returns-then-not-keeps c =
-    let s = c.args.self.now in
-    record { leaves = record { function = refl; held = refl; marks = passed_not (tables s.function.store.now) s.function.legible.readable c.args.number c.requires s.marks.now c.if-not-keeps.ensures }; newly = omega arith }
-
 pub returns : goal.returns
 returns c =
     let s = c.args.self.now in

@@ -16,12 +16,3 @@ loop-place-preserved c =
     leaves_then (λ f ms. with_mark ms p.identifier.0) c.loop-place.invariant c.mark.ensures.leaves
     (sym (all_more marks (take i ps) p) ∙ sym (ap (λ l. with_marks marks (ids l)) (take_more ps i null_place c.loop-place-test.true)))
 
-pub returns : goal.returns
-returns c =
-    let ps : List Place = c.terminal_places-place-items.result.now in
-    let marks : List ℕ = c.args.self.now.marks.now in
-    record {
-      function = c.loop-place.invariant.function;
-      held = c.loop-place.invariant.held;
-      marks = c.loop-place.invariant.marks ∙ ap (λ l. with_marks marks (ids l)) (take_all c.loop-place.place-index ps c.loop-place-test.false) ∙ ap (with_marks marks) c.terminal_places-place-items.ensures.seen;
-    }
