@@ -1,5 +1,5 @@
 -- The neighbours of a list, as `windows(2)` gives them.
-use Rattle.std.proofs.Common.{◌≡◌, Bool, true, false, MatchBool, ℕ, zero, suc, ◌<◌, ◌≤◌, List, [], ◌∷◌, map, length, get_or, take, drop, refl, subst, ◌∙◌, add-one, arith}
+use Rattle.std.proofs.Common.{◌≡◌, ℕ, zero, suc, ◌<◌, ◌≤◌, List, [], ◌∷◌, map, length, get_or, take, drop, refl, subst, ◌∙◌, add-one, arith}
 use Rattle.std.specs.declared.slice.Windows.{Windows}
 use Rattle.std.specs.List.{AllByRecursion}
 use Rattle.std.specs.Slice.Iter.{windows_rest, windows_size, windows_steps}
@@ -48,17 +48,13 @@ module _ (f : ℕ → InstructionV) where
   abbrev pub After : List ℕ → Type 0
   After w = ComesAfter (f (get_or w 0 0)) (f (get_or w 1 0))
 
-  rising_from : (xs : List ℕ) → AllByRecursion After (map (λ w. w) (pairs xs)) → Rising (map f xs)
+  pub rising_from : (xs : List ℕ) → AllByRecursion After (pairs xs) → Rising (map f xs)
   rising_from [] a k d l = absurd (omega arith)
   rising_from (x ∷ []) a k d l = absurd (omega arith)
   rising_from (x ∷ y ∷ ys) a zero d l = a.0
   rising_from (x ∷ y ∷ ys) a (suc k) d l = rw add-one (rw add-one at (rising_from (y ∷ ys) a.1 k d (omega arith)))
 
-  rising_to : (xs : List ℕ) → Rising (map f xs) → AllByRecursion After (map (λ w. w) (pairs xs))
+  pub rising_to : (xs : List ℕ) → Rising (map f xs) → AllByRecursion After (pairs xs)
   rising_to [] r = tt
   rising_to (x ∷ []) r = tt
   rising_to (x ∷ y ∷ ys) r = (r 0 (f x) (omega arith), rising_to (y ∷ ys) (λ k d l. rw add-one (rw add-one at (r (suc k) d (omega arith)))))
-
-  pub rising_tells : (xs : List ℕ) (b : Bool) → MatchBool b (AllByRecursion After (map (λ w. w) (pairs xs))) (AllByRecursion After (map (λ w. w) (pairs xs)) → ⊥) → MatchBool b (Rising (map f xs)) (Rising (map f xs) → ⊥)
-  rising_tells xs true a = rising_from xs a
-  rising_tells xs false n = λ r. n (rising_to xs r)

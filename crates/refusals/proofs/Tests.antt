@@ -17,7 +17,7 @@ when_through true f g h = f h
 when_through false f g h = g h
 
 -- what `cases_from_all` says, where a test tells of a row whether it has P
-each : {B : Type 0} (P : B → Type 0) (xs : List B) (r : Bool) → MatchBool r (AllWithin P xs 0 (length xs)) ((k : ℕ) × (k < length xs) × HoldsAt (λ x. P x → ⊥) xs k) → MatchBool r (AllByRecursion P xs) (AllByRecursion P xs → ⊥)
+pub each : {B : Type 0} (P : B → Type 0) (xs : List B) (r : Bool) → MatchBool r (AllWithin P xs 0 (length xs)) ((k : ℕ) × (k < length xs) × HoldsAt (λ x. P x → ⊥) xs k) → MatchBool r (AllByRecursion P xs) (AllByRecursion P xs → ⊥)
 each P xs true h = recursion_from_All P xs (λ k d l. h k d (omega arith) l)
 each P [] false h = λ a. absurd (let l = h.1 in omega arith)
 each P (x ∷ xs) false h = λ a. h.2 x (All-from_recursion P (x ∷ xs) a h.0 x h.1)

@@ -5,7 +5,7 @@ use Rattle.hir.specs.declared.rows.Store.{Store}
 use Rattle.hir.specs.Tables.{tables}
 use Rattle.hir.specs.View.{instruction_at, rows, view}
 use Rattle.refusals.specs.Walked.{Keyless}
-use Rattle.refusals.proofs.Chains.{called_at_each, all_tells}
+use Rattle.refusals.proofs.Chains.{called_at_each, all_mapped_tell}
 use Rattle.key_children.proofs.block_keyless.Goals as goal
 
 pub all-requires-clause-callable : goal.all-requires-clause-callable
@@ -19,4 +19,4 @@ returns c =
     let numbers = c.list-list.result.numbers.now in
     let seen = ap (λ (s : Bor Store). map (instruction_at (rows (tables s.now))) numbers) (sym c.list-list.ensures.store) ∙ c.list-list.ensures.seen in
     subst (λ is. MatchBool c.all.result (AllByRecursion (Keyless (view t)) is) (AllByRecursion (Keyless (view t)) is → ⊥)) seen
-    (all_tells (Keyless (view t)) (instruction_at (rows t)) _ _ c.all.result c.all.ensures.ran (YieldsList-from_slice numbers cc) (λ x b q h. search rules))
+    (all_mapped_tell (Keyless (view t)) (instruction_at (rows t)) _ _ c.all.result c.all.ensures.ran (YieldsList-from_slice numbers cc) (λ x b q h. search rules))

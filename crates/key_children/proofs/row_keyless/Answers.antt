@@ -6,7 +6,7 @@ use Rattle.hir.specs.Tables.{tables}
 use Rattle.hir.specs.View.{instruction_at, place_view, rows, view}
 use Rattle.hir.specs.WellFormed.{PlaceFits}
 use Rattle.refusals.specs.Walked.{ChildKeyless, Keyless}
-use Rattle.refusals.proofs.Chains.{called_at_each, any_tells}
+use Rattle.refusals.proofs.Chains.{called_at_each, no_mapped_tell}
 use Rattle.key_children.proofs.row_keyless.Goals as goal
 
 element_told : (h : Hir) (i : InstructionV) (b : Bool) → is_element i ≡ true → MatchBool b (AllByRecursion (ChildKeyless h) i.places) (AllByRecursion (ChildKeyless h) i.places → ⊥) → MatchBool b (Keyless h i) (Keyless h i → ⊥)
@@ -22,4 +22,4 @@ returns c =
     let told = not c.any.result in
     element_told (view t) (instruction_at (rows t) c.args.number) told (search (rules, tests))
     (subst (λ ps. MatchBool told (AllByRecursion (ChildKeyless (view t)) ps) (AllByRecursion (ChildKeyless (view t)) ps → ⊥)) c.places-places.ensures.seen
-    (any_tells (ChildKeyless (view t)) (place_view (view t).text) _ _ c.any.result c.any.ensures.ran (YieldsList-from_slice c.places-places.result.now cc) (λ x q h. search (rules, tests)) (λ x q h. search (rules, tests))))
+    (no_mapped_tell (ChildKeyless (view t)) (place_view (view t).text) _ _ c.any.result c.any.ensures.ran (YieldsList-from_slice c.places-places.result.now cc) (λ x q h. search (rules, tests)) (λ x q h. search (rules, tests))))
