@@ -1,22 +1,16 @@
 -- The name of an identifier, as its row has it and as it is seen.
-use Rattle.std.proofs.Common.{◌≡◌, Some, None, Option, ℕ, ◌<◌, length, get_or, refl, ap, ◌∙◌, subst, arith, get_or-take}
+use Rattle.std.proofs.Common.{◌≡◌, Some, None, Option, ℕ, ◌<◌, length, get_or, refl, ap, ◌∙◌, arith, get_or-take}
 use Rattle.std.proofs.lemmas.List.{get_or-map}
-use Rattle.std.proofs.ByRecursion.{All-get_or}
 use Rattle.rules.specs.Views.{Bytes, absent, IdentifierV}
 use Rattle.hir.specs.declared.rows.Counts.{Counts}
 use Rattle.hir.specs.declared.rows.IdentifierName.{IdentifierName}
 use Rattle.hir.specs.declared.rows.IdentifierName.TheVariants.{Named, Promoted}
 use Rattle.hir.specs.Tables.{Tables}
 use Rattle.hir.specs.View.{rows, view, spelt_if, name_view, identifier_view, null_identifier}
-use Rattle.hir.specs.WellFormed.{NameIfFits, IdentifierNameFits, IdentifierFits, WellFormed}
+use Rattle.hir.specs.WellFormed.{WellFormed}
 use Rattle.hir.proofs.Growth.{sizes_are}
 use Rattle.refusals.specs.Walked.{bytes_if, name_of}
 use Rattle.hir.specs.Given.{name_if}
-
-name_fits : (c : Counts) (n : Option IdentifierName) → IdentifierNameFits c n → NameIfFits c (name_if n)
-name_fits c None h = tt
-name_fits c (Some (Named n)) h = h
-name_fits c (Some (Promoted n)) h = h
 
 spelt_name : (text : Bytes) (n : Option IdentifierName) → bytes_if (name_view text n) ≡ spelt_if text (name_if n)
 spelt_name text None = refl
@@ -29,9 +23,6 @@ module _ (t : Tables) (w : WellFormed t) (x : ℕ) (h : x < t.counts.identifiers
 
   size : length (rows t).identifiers ≡ t.counts.identifiers
   size = ap (λ (c : Counts). c.identifiers) (sizes_are t w.counted)
-
-  pub name_if_fits : NameIfFits t.counts (name_if (get_or t.identifiers x null_identifier).name)
-  name_if_fits = name_fits t.counts (get_or t.identifiers x null_identifier).name (subst (IdentifierFits t.counts) row_is (All-get_or (IdentifierFits t.counts) (rows t).identifiers x null_identifier (omega (arith, size)) w.sound.identifiers))
 
   pub name_seen : name_of (view t) x ≡ spelt_if (view t).text (name_if (get_or t.identifiers x null_identifier).name)
   name_seen =
