@@ -4,7 +4,8 @@ ghost use Rattle.rules.specs.Names.{numeral};
 
 use itoa::Buffer;
 
-// Writes a number in decimal, from `at` on, and answers where it ends.
+// Writes a number in decimal, from `at` on, and answers where it ends. The text is the host's table, so a place goes beside it, and no
+// `String` is made.
 #[tactic(auto, using(rules::proofs::Numerals::numeral_decimal, crate::proofs::Pasted::copied))]
 pub fn write_decimal(text: &mut [u8], at: usize, n: u32) -> usize
     requires { at + length (numeral n) ≤ length text.old }

@@ -1,7 +1,7 @@
 -- The laws of the table: what is found after insertions, and in which order the keys stand.
 use Rattle.std.proofs.Common.{◌≡◌, Bool, true, false, cond, List, [], ◌∷◌, ◌++◌, length, Some, Option, sym, refl, ap, ◌∙◌, inl, inr}
 use Rattle.std.proofs.lemmas.List.{append-nil, append_assoc, map_push}
-use Rattle.std.proofs.lemmas.Bool.{both_ways, cases_Bool, cases_lt, or_parts, or_from}
+use Rattle.std.proofs.lemmas.Bool.{both_ways, cases_Bool, cases_lt, or_parts}
 use Rattle.rules.specs.Lists.{any}
 use Rattle.ordered_table.specs.declared.Entry.{Entry}
 use Rattle.ordered_table.specs.Entries.{put, look, keys, among, put_all, firsts, given_last, Distinct, StaysDistinct, Ordered}
@@ -9,8 +9,8 @@ use Rattle.ordered_table.proofs.Places.{place, there, missing}
 
 -- a test that fails on each of these and on one more fails on all
 any_push : {A : Type 0} (p : A → Bool) (xs : List A) (x : A) → any p xs ≡ false → p x ≡ false → any p (xs ++ (x ∷ [])) ≡ false
-any_push p [] x h n = or_from (p x) false n refl
-any_push p (y ∷ ys) x h n = let q = or_parts (p y) (any p ys) h in or_from (p y) _ q.0 (any_push p ys x q.1 n)
+any_push p [] x h n = simp n
+any_push p (y ∷ ys) x h n = let q = or_parts (p y) (any p ys) h in simp (q.0, any_push p ys x q.1 n)
 
 distinct_push : {K : Type 0} (e : K → K → Bool) (ks : List K) (k : K) → Distinct e ks → among e ks k ≡ false → Distinct e (ks ++ (k ∷ []))
 distinct_push e [] k h n = (refl, tt)

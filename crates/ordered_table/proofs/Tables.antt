@@ -1,6 +1,7 @@
 -- What holds of a table by where a key stands among its entries, and what an insertion leaves.
-use Rattle.std.proofs.Common.{◌≡◌, ℕ, zero, suc, ◌+◌, ◌<◌, ◌≤◌, Bool, true, false, List, [], ◌∷◌, length, get_or, take, set, Some, None, Ok, Err, Option, Result, sym, refl, ap, ◌∙◌, arith}
+use Rattle.std.proofs.Common.{◌≡◌, ℕ, ◌+◌, ◌<◌, ◌≤◌, Bool, true, false, length, get_or, set, Some, None, Ok, Err, Option, Result, sym, ◌∙◌, arith}
 use Rattle.std.specs.Prelude.{position}
+use Rattle.std.proofs.Math.Seq.{take-set-lt}
 use Rattle.std.proofs.lemmas.List.{get_or-take, length-take-le, length-set, take_more_set, drop-set-lt}
 use Rattle.std.proofs.lemmas.Bool.{lt-ltb, le-ltb}
 use Rattle.ordered_table.specs.declared.Entry.{Entry}
@@ -9,13 +10,7 @@ use Rattle.ordered_table.specs.declared.OrderedTable.{OrderedTable}
 use Rattle.ordered_table.specs.Table.{entries_of, room, takes, Insertion}
 use Rattle.ordered_table.proofs.Places.{there_at, missing_at}
 
-take_set_in : {X : Type 0} (n i : ℕ) (xs : List X) (a : X) → take n (set xs i a) ≡ set (take n xs) i a
-take_set_in zero i xs a = refl
-take_set_in (suc n) i [] a = refl
-take_set_in (suc n) zero (x ∷ xs) a = refl
-take_set_in (suc n) (suc i) (x ∷ xs) a = ap (λ ys. x ∷ ys) (take_set_in n i xs a)
-
-pub entries_length : {K V : Type 0} (t : OrderedTable K V) → length (entries_of t) ≡ t.len
+entries_length : {K V : Type 0} (t : OrderedTable K V) → length (entries_of t) ≡ t.len
 entries_length t = length-take-le t.len t.entries.now t.fits
 
 -- an insertion of `v` that answers `r` and leaves `u`: into the key's own entry, past the last one, or not at all
@@ -30,7 +25,7 @@ module _ {K V : Type 0} (e : K → K → Bool) (t : OrderedTable K V) (k : K) (v
       let fits : takes e t k ≡ true = simp w.listed in
       record {
         answers = answer ∙ simp (fits, w.looked d, g d);
-        holds = simp (answer, same, is) (take_set_in t.len i t.entries.now _ ∙ sym (w.puts f v ∙ simp (g f)));
+        holds = simp (answer, same, is) (take-set-lt t.len t.entries.now i _ h ∙ sym (w.puts f v ∙ simp (g f)));
         spare = simp (same, is) (drop-set-lt t.len t.entries.now i _ h);
         same_room = simp is (length-set t.entries.now i _);
       }
