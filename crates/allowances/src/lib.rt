@@ -109,7 +109,8 @@ pub fn enough_spare(function: StoredFunction<'_, '_>, depth: u32) -> bool
     allowed.fit(function.store)
 }
 
-// The functions on the walk from a function, together. None only where a sum passes 64 bits.
+// The functions on the walk from a function, together. None only where a sum passes 64 bits. Blocks are gone through by number, since a
+// list is asked for by its block's number.
 #[cycle(walk_tally)]
 pub fn walk_tally(function: StoredFunction<'_, '_>, depth: u32) -> Option<Tally>
     ensures { Tallied result (walk_counts depth (view (tables function.entry.store.now)) function.entry.id.0) }

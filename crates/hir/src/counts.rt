@@ -29,7 +29,8 @@ fn take(used: &mut u32, count: u32) -> u32
     first
 }
 
-// Taking rows that were spare: each answers where they begin, and no other count changes. The caller has seen to the room.
+// Taking rows that were spare: each answers where they begin, and no other count changes. The caller has seen to the room. They are
+// methods of the counts, one for each table, by a rule of the project.
 impl Counts {
     pub fn take_text(&mut self, len: u32) -> Name
         requires { self.old.text + len ≤ text_limit }

@@ -27,7 +27,7 @@ pub fn used_row<T>(table: &[T], used: u32, number: u32) -> Option<&T>
     table.get(number as usize)
 }
 
-// The same for each table of a store, by the sort of number that it takes.
+// The same for each table of a store, by the sort of number that it takes: a line each, which a trait over the sorts would have too.
 impl Store<'_> {
     pub fn bytes_of(&self, name: Name) -> Option<&[u8]>
         ensures { ReadsRun self.now.text.now self.now.counts.text (record { first = name.start; count = name.len }) result }

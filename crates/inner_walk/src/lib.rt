@@ -13,7 +13,7 @@ use kinds::ValueKind;
 use reading::{RowList, StoredFunction};
 
 // Goes through a function and the functions that its listed FunctionExpression rows name, each block from its last row to its first, and
-// marks each. False if one is marked already, is appended or lies too deep.
+// marks each. False if one is marked already, is appended or lies too deep. Loops and no chains, since the marks change on the way.
 #[cycle(walk)]
 pub fn walk(function: StoredFunction<'_, '_>, depth: u32, reached: &mut [u8]) -> bool
     requires marks { function.store.now.counts.functions ≤ length reached.old }

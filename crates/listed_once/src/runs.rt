@@ -27,7 +27,7 @@ fn mark_run(run: Run, marks: &mut [u8]) -> bool
     mark_all(&mut marks[first..first + run.count as usize])
 }
 
-// Marks the runs of rows one after another; false if a run covers what is marked already.
+// Marks the runs of rows one after another; false if a run covers what is marked already. A loop, since the marks change on the way.
 fn mark_runs<T, F: Fn(&T) -> Run>(rows: &[T], run_of: F, marks: &mut [u8]) -> bool
     requires callable { F.IsAlwaysCallable run_of }
     requires fit { RunsFit (FnReturnsAt F.Fn run_of) rows.now (length marks.old) }

@@ -20,7 +20,7 @@ impl Turn {
         true
     }
 
-    // The same of the written places.
+    // The same of the written places; a loop, since the marks change on the way.
     pub fn mark_places(self, places: &[Place], marks: &mut [u64]) -> bool
         requires { AllByRecursion (λ (p : Place). p.identifier.0 < length marks.old) places.now }
         ensures { MatchBool result (Marked self.base self.own self.own (written_in places.now) marks.old marks.new) (Markable self.base (written_in places.now) marks.old → ⊥) }

@@ -9,7 +9,8 @@ use super::turn::Turn;
 use kinds::ValueKind;
 use reading::{RowList, StoredFunction};
 
-// No mark is above `base` at first; then those of the function are, by less than 2^32.
+// No mark is above `base` at first; then those of the function are, by less than 2^32. A block's turn is by its number. Loops and no
+// chains, since the marks change on the way.
 pub fn function_sound(function: StoredFunction<'_, '_>, base: u64, marks: &mut [u64]) -> bool
     requires within { function.store.now.counts.identifiers ≤ length marks.old }
     requires small { base < 2 ^ 60 }

@@ -31,6 +31,7 @@ impl From<Refusal> for u8 {
     }
 }
 
+// By hand, so that clauses know which refusal a `?` makes.
 impl From<AllocError> for Refusal {
     ghost from_gives = { λ _ r. r ≡ Memory };
 

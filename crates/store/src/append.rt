@@ -14,7 +14,8 @@ use hir::{
     InstructionId, Place, Report, Run, Store, Tag, write_rows,
 };
 
-// Each append has a part that only writes, and asks for room alone.
+// Each append has a part that only writes, and asks for room alone. They differ in the table and the count that they name, which is all that
+// the impls of a trait over tables would say.
 
 fn write_places(store: &mut Store<'_>, places: &[Place]) -> Run
     requires { Room store.old.counts.places (length places.now) (length store.old.places.now) places_limit }

@@ -52,7 +52,7 @@ fn kind_formed(row: &Instruction, places: &[Place]) -> bool
     }
 }
 
-// The tag or the row's name, and places in the order of their roles.
+// The tag or the row's name, and places in the order of their roles. A loop, since each role is looked at beside the one before it.
 fn element_formed(row: &Instruction, places: &[Place]) -> bool
     ensures { MatchBool result (ElementFormed row.now places.now) (ElementFormed row.now places.now → ⊥) }
 {

@@ -6,7 +6,7 @@ use super::kept::Marked;
 use hir::{FormedStore, FunctionId};
 use thin::thin_block_list;
 
-// Each list of a function, without the rows that the marks do not keep.
+// Each list of a function, without the rows that the marks do not keep; by block number, since the store changes on the way.
 pub(super) fn thin_lists(store: &mut FormedStore<'_>, function: FunctionId, marks: &[u8])
     requires wide { store.old.counts.identifiers ≤ length marks.now }
     requires used { function.0 < store.old.counts.functions }

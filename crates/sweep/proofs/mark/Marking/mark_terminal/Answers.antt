@@ -15,4 +15,3 @@ loop-place-preserved c =
     let marks : List ℕ = c.args.self.now.marks.now in
     leaves_then (λ f ms. with_mark ms p.identifier.0) c.loop-place.invariant c.mark.ensures.leaves
     (sym (all_more marks (take i ps) p) ∙ sym (ap (λ l. with_marks marks (ids l)) (take_more ps i null_place c.loop-place-test.true)))
-
