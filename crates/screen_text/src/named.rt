@@ -1,24 +1,19 @@
-ghost use Rattle.std.specs.Prelude.{◌≡◌, ◌<◌, ◌≤◌, None};
-ghost use Rattle.screen_text.specs.Named.{named_output, Names};
+ghost use Rattle.std.specs.Prelude.{min};
+ghost use Rattle.screen_text.specs.Named.{named_output};
 
+use kinds::UnknownNumber;
 use std::fmt;
 
 // The kind that a number of the tables names, shown by its name. A number that names none is shown as a question mark.
 #[derive(Drop)]
-pub struct Named<K>(Option<K>);
+pub struct Named<K>(Result<K, UnknownNumber>);
 
-impl<K: TryFrom<u8>> Named<K>
-where
-    K::Error: Drop,
-{
+impl<K: TryFrom<u8, Error = UnknownNumber>> Named<K> {
+    // No kind has the number 255, so it stands for each larger one too.
     pub fn of(number: u64) -> Named<K>
-        ensures small { number < 256 → Names K.try_from_gives number result.0 }
-        ensures large { 256 ≤ number → result.0 ≡ None }
+        ensures { K.try_from_gives (min number 255) result.0 }
     {
-        let Ok(small) = u8::try_from(number) else {
-            return Named(None);
-        };
-        Named(K::try_from(small).ok())
+        Named(K::try_from(u8::try_from(number).unwrap_or(u8::MAX)))
     }
 }
 
@@ -27,8 +22,8 @@ impl<K: fmt::Display> fmt::Display for Named<K> {
 
     fn fmt<W: fmt::Write>(&self, f: &mut fmt::Formatter<W>) -> fmt::Result {
         match &self.0 {
-            Some(kind) => write!(f, "{kind}"),
-            None => write!(f, "?"),
+            Ok(kind) => write!(f, "{kind}"),
+            Err(_) => write!(f, "?"),
         }
     }
 }
