@@ -37,43 +37,36 @@ impl Allowances {
         ensures { MatchBool result (HasRoom (tables store.now) self) (HasRoom (tables store.now) self → ⊥) }
     {
         let used = store.counts;
-        has_room(used.text, self.text, store.text.len(), LIMITS.text as u64)
-            && has_room(
+        let tables = [
+            (used.text, self.text, store.text.len(), LIMITS.text),
+            (
                 used.identifiers,
                 self.identifiers,
                 store.identifiers.len(),
-                LIMITS.identifiers as u64,
-            )
-            && has_room(
-                used.places,
-                self.places,
-                store.places.len(),
-                LIMITS.places as u64,
-            )
-            && has_room(
+                LIMITS.identifiers,
+            ),
+            (used.places, self.places, store.places.len(), LIMITS.places),
+            (
                 used.instructions,
                 self.instructions,
                 store.instructions.len(),
-                LIMITS.instructions as u64,
-            )
-            && has_room(
+                LIMITS.instructions,
+            ),
+            (
                 used.numbers,
                 self.numbers,
                 store.numbers.len(),
-                LIMITS.numbers as u64,
-            )
-            && has_room(
-                used.blocks,
-                self.blocks,
-                store.blocks.len(),
-                LIMITS.blocks as u64,
-            )
-            && has_room(
+                LIMITS.numbers,
+            ),
+            (used.blocks, self.blocks, store.blocks.len(), LIMITS.blocks),
+            (
                 used.functions,
                 self.functions,
                 store.functions.len(),
-                LIMITS.functions as u64,
-            )
+                LIMITS.functions,
+            ),
+        ];
+        tables.iter().all(|(used, more, rows, limit)| has_room(*used, *more, *rows, *limit as u64))
     }
 }
 
