@@ -1,18 +1,10 @@
 -- Marks: one more, several more, and how many are left.
-use Rattle.std.proofs.Common.{◌≡◌, ℕ, zero, suc, ◌+◌, ◌<◌, ◌≤◌, true, false, not, ◌&&◌, ◌||◌, eqb, leb, List, [], ◌∷◌, ◌++◌, length, get_or, set, sym, refl, ap, ◌∙◌, arith, length-set}
+use Rattle.std.proofs.Common.{◌≡◌, ℕ, zero, suc, ◌+◌, ◌<◌, ◌≤◌, true, false, not, ◌&&◌, ◌||◌, eqb, leb, List, [], ◌∷◌, ◌++◌, length, get_or, set, refl, ap, ◌∙◌, arith, length-set}
 use Rattle.std.specs.List.{list_any}
-use Rattle.std.proofs.lemmas.Bool.{eq-eqb, ne_eqb}
+use Rattle.std.proofs.lemmas.Bool.{eq-eqb}
 use Rattle.rules.specs.Lists.{any, select}
-use Rattle.rules.proofs.Steps.{pick_true, pick_false}
 use Rattle.hir.specs.declared.rows.Place.{Place}
 use Rattle.sweep.specs.Marks.{is_marked, unmarked_one, unmarked, with_mark, with_marks, ids, ids_read, ids_written}
-
--- one more
-pub mark_new : (marks : List ℕ) (x : ℕ) → get_or marks x 0 ≡ 0 → set marks x 1 ≡ with_mark marks x
-mark_new marks x h = sym (pick_true (eqb (get_or marks x 0) 0) (set marks x 1) marks (eq-eqb (get_or marks x 0) 0 h))
-
-pub mark_old : (marks : List ℕ) (x : ℕ) → (get_or marks x 0 ≡ 0 → ⊥) → marks ≡ with_mark marks x
-mark_old marks x h = sym (pick_false (eqb (get_or marks x 0) 0) (set marks x 1) marks (ne_eqb (get_or marks x 0) 0 h))
 
 pub one_less : (marks : List ℕ) (x : ℕ) → x < length marks → get_or marks x 0 ≡ 0 → 1 + unmarked (set marks x 1) ≡ unmarked marks
 one_less [] x l h = absurd (omega arith)

@@ -1,7 +1,7 @@
 -- Rows and places as the tables have them, and as they are seen.
-use Rattle.std.proofs.Common.{◌≡◌, ℕ, zero, suc, ◌+◌, ◌-◌, ◌<◌, ◌≤◌, Bool, true, false, eqb, leb, List, [], ◌∷◌, ◌++◌, map, reverse, Bor, length, get_or, take, drop, sym, refl, ap, ◌∙◌, subst, inl, inr, arith, get_or-take}
+use Rattle.std.proofs.Common.{◌≡◌, ℕ, zero, suc, ◌+◌, ◌-◌, ◌<◌, ◌≤◌, Bool, true, false, eqb, leb, List, [], ◌∷◌, map, length, get_or, take, drop, sym, refl, ap, ◌∙◌, subst, inl, inr, arith, get_or-take}
 use lib.ListN.{length-map}
-use Rattle.std.proofs.lemmas.List.{at_drop_more, get_or-map, map-append, reverse-append}
+use Rattle.std.proofs.lemmas.List.{at_drop_more, get_or-map}
 use Rattle.std.specs.List.{AllByRecursion}
 use Rattle.std.proofs.ByRecursion.{All-get_or, All-weaker, All-take, All-drop}
 use Rattle.rules.specs.Lists.{any, select, within, Lists}
@@ -19,13 +19,13 @@ use Rattle.hir.specs.declared.rows.BasicBlock.{BasicBlock}
 use Rattle.hir.specs.Used.{in_run}
 use Rattle.hir.specs.Tables.{Tables}
 use Rattle.hir.specs.View.{rows, view, null_instruction, null_block, null_function, place_view, instruction_at, block_view, function_view}
-use Rattle.hir.specs.WellFormed.{RunFits, PlaceFits, BlockFits, Readable, WellFormed}
+use Rattle.hir.specs.WellFormed.{RunFits, PlaceFits, Readable}
 use Rattle.hir.specs.Legible.{BlockLegible, Legible}
 use Rattle.hir.proofs.Runs.{length_run, getD_run, covered}
 use Rattle.hir.proofs.Growth.{sizes_are}
-use Rattle.hir.proofs.Seen.{row_fits, row_seen, places_read, places_fit, slice_run, function_is, function_fits}
+use Rattle.hir.proofs.Seen.{row_seen, places_read, places_fit, slice_run, function_is, function_fits}
 use Rattle.sweep.specs.Marks.{is_marked, ids, ids_read, ids_written, IdsFit, kept_by, row_kept, passed, all_passed, round_passed, terminal_at, terminals_marked, with_marks, TerminalsFit}
-use Rattle.rules.proofs.Steps.{pick_true, pick_false}
+use Rattle.rules.proofs.Steps.{pick_true}
 use Rattle.sweep.proofs.Settling.{InRange}
 
 module _ (text : Bytes) where
@@ -88,14 +88,8 @@ module _ (t : Tables) (w : Readable t) (n : ℕ) (used : n < t.counts.instructio
         ap (λ (l : List ℕ). sweep_keeps (acts row.kind) (any (is_marked marks) l)) (sym writes_are)
         ∙ ap (λ (x : InstructionV). sweep_keeps (acts x.kind) (any (is_marked marks) (writes i))) (row_seen t w n used)
 
-  pub passed_not : (marks : List ℕ) → false ≡ kept_by (is_marked marks) i → marks ≡ passed marks i
-  passed_not marks e = sym (pick_false (kept_by (is_marked marks) i) (with_marks marks (reads i)) marks (sym e))
-
   pub passed_kept : (marks : List ℕ) → true ≡ kept_by (is_marked marks) i → with_marks marks (reads i) ≡ passed marks i
   passed_kept marks e = sym (pick_true (kept_by (is_marked marks) i) (with_marks marks (reads i)) marks (sym e))
-
-  pub result_fits : (marks : List ℕ) → t.counts.identifiers ≤ length marks → row.result.identifier.0 < length marks
-  result_fits marks wide = omega (arith, (row_fits t w n used).result.identifier)
 
 pub places_fit_marks : (marks : List ℕ) (c : Counts) → c.identifiers ≤ length marks → (ps : List Place) → AllByRecursion (PlaceFits c) ps → IdsFit marks ps
 places_fit_marks marks c wide ps a = All-weaker (PlaceFits c) (λ (p : Place). p.identifier.0 < length marks) (λ p f. omega (arith, f.identifier)) ps a
@@ -109,10 +103,6 @@ back : {X Y : Type 0} (F : List X → Y) (xs : List X) (d : X) (j : ℕ) → 0 <
 back F xs d j h l =
     let e : j - 1 + 1 ≡ j = omega arith in
     at_drop_more F xs (j - 1) d (omega arith) ∙ ap (λ k. F (get_or xs (j - 1) d ∷ drop k xs)) e
-
--- the rows of a list, from the last to the first: one more
-pub rows_more : (g : ℕ → InstructionV) (marks : List ℕ) (ns : List (Bor ℕ)) (n : Bor ℕ) → all_passed marks (map g (reverse (map (λ (m : Bor ℕ). m.now) (ns ++ n ∷ [])))) ≡ passed (all_passed marks (map g (reverse (map (λ (m : Bor ℕ). m.now) ns)))) (g n.now)
-rows_more g marks ns n = ap (λ l. all_passed marks (map g (reverse l))) (map-append (λ (m : Bor ℕ). m.now) ns (n ∷ [])) ∙ ap (λ l. all_passed marks (map g l)) (reverse-append (map (λ (m : Bor ℕ). m.now) ns) (n.now ∷ []))
 
 -- the lists of blocks, and what their terminals read, from the last to the first
 abbrev no_block : BlockV
@@ -133,9 +123,6 @@ round_more marks bs k h l = ap (all_passed (round_passed marks (drop k bs))) (bl
 
 pub terminals_more : (marks : List ℕ) (bs : List BlockV) (k : ℕ) → 0 < k → k ≤ length bs → with_marks (terminals_marked marks (drop k bs)) (identifiers_of (terminal_at bs (k - 1))) ≡ terminals_marked marks (drop (k - 1) bs)
 terminals_more marks bs k h l = ap (λ ps. with_marks (terminals_marked marks (drop k bs)) (identifiers_of ps)) (terminal_is bs (k - 1) no_block (omega arith)) ∙ sym (back (terminals_marked marks) bs no_block k h l)
-
-pub terminals_fit : (t : Tables) → WellFormed t → TerminalsFit t
-terminals_fit t w = All-weaker (BlockFits t.counts (rows t).numbers) (λ (b : BasicBlock). RunFits b.places t.counts.places) (λ b h. h.places) (rows t).blocks w.sound.blocks
 
 module _ (t : Tables) (w : Legible t) where
   blocks_size : length (rows t).blocks ≡ t.counts.blocks

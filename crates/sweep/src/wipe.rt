@@ -1,6 +1,6 @@
 ghost use Rattle.dead_code_elimination.specs.Elimination.{Zero};
 
-// Holds the mark bytes while they are used, and zeroes them however that ends.
+// Holds the mark bytes, which are the host's, while they are used, and zeroes them however that ends.
 pub(super) struct Wipe<'a> {
     pub(super) marks: &'a mut [u8],
 }

@@ -2,7 +2,7 @@
 use Rattle.std.proofs.Common.{◌≡◌, ℕ, zero, suc, ◌+◌, ◌-◌, ◌<◌, ◌≤◌, Bool, true, false, ◌≢◌, List, [], ◌∷◌, ◌++◌, map, length, get_or, take, set, sym, refl, ap, ◌∙◌, subst, append-nil, arith, length-take-le}
 use lib.Seq.{paste, length-paste}
 use Rattle.std.specs.List.{AllByRecursion}
-use Rattle.std.proofs.lemmas.List.{get_or_default, take_more, take_all}
+use Rattle.std.proofs.lemmas.List.{get_or_default, take_more}
 use Rattle.std.proofs.ByRecursion.{All-get_or, All-from_get_or}
 use Rattle.rules.specs.Lists.{select}
 use Rattle.rules.specs.Views.{InstructionV}
@@ -88,12 +88,6 @@ module _ (test : InstructionV → Bool) (t : Tables) (run : Run) (fits : run.fir
 
   list_size : length list ≡ run.count
   list_size = length_run run t.numbers fits
-
-  pub none_so_far : so_far test t run run.first ≡ []
-  none_so_far = let e : run.first - run.first ≡ 0 = omega arith in ap (λ k. kept_of test t (take k list)) e
-
-  pub all_so_far : (i : ℕ) → run.first + run.count ≤ i → so_far test t run i ≡ kept_of test t list
-  all_so_far i h = ap (kept_of test t) (take_all (i - run.first) list (omega (arith, list_size)))
 
   module _ (i : ℕ) (from : run.first ≤ i) (h : i < run.first + run.count) where
     abbrev xs : List ℕ

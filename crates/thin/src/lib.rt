@@ -57,7 +57,6 @@ fn gather_kept<K: Keeps>(store: &mut Store<'_>, run: Run, keep: &K) -> u32
     (end - first) as u32
 }
 
-#[tactic(auto, using(hir::proofs::Listed::block_used))]
 fn write_thinned<K: Keeps>(store: &mut Store<'_>, function: FunctionId, k: u32, keep: &K)
     requires well { WellFormed (tables store.old) }
     requires has { HasBlock (tables store.old) function.0 k }
@@ -72,7 +71,12 @@ fn write_thinned<K: Keeps>(store: &mut Store<'_>, function: FunctionId, k: u32, 
 }
 
 // Leaves the k-th block of a function the rows that are to stay, in their order.
-pub fn thin_block_list<K: Keeps>(store: &mut FormedStore<'_>, function: FunctionId, k: u32, keep: &K)
+pub fn thin_block_list<K: Keeps>(
+    store: &mut FormedStore<'_>,
+    function: FunctionId,
+    k: u32,
+    keep: &K,
+)
     requires has { HasBlock (tables store.old) function.0 k }
     requires ready { K.Keeps.ready keep.now store.old.counts }
     ensures does { Becomes store.old store.new (with_thinned_list (tables store.old) function.0 k (kept_numbers (K.Keeps.test keep.now) (tables store.old) function.0 k)) (with_list (view (tables store.old)) function.0 k (select (K.Keeps.test keep.now) (rows_at (view (tables store.old)) function.0 k))) }

@@ -1,27 +1,15 @@
-use Rattle.std.proofs.Common.{◌≡◌, ℕ, ◌+◌, ◌-◌, ◌<◌, ◌≤◌, Bool, List, [], ◌∷◌, ◌++◌, length, get_or, set, sym, ap, ◌∙◌, subst, arith, length-set, rules}
+use Rattle.std.proofs.Common.{◌≡◌, ℕ, ◌+◌, ◌<◌, ◌≤◌, Bool, List, [], ◌∷◌, ◌++◌, length, get_or, set, sym, ap, ◌∙◌, subst, arith, length-set}
 use Rattle.std.proofs.lemmas.List.{length_push}
-use lib.Seq.{paste, paste-zero}
+use lib.Seq.{paste}
 use Rattle.rules.specs.Views.{InstructionV}
 use Rattle.hir.specs.declared.rows.Run.{Run}
 use Rattle.hir.specs.Tables.{Tables, tables, hold_numbers, Held}
 use Rattle.hir.specs.View.{rows, instruction_at}
 use Rattle.hir.specs.WellFormed.{Readable}
 use Rattle.thin.specs.Kept.{rewritten}
-use Rattle.thin.proofs.Front.{so_far, none_so_far, all_so_far, row_read, row_used, stays_more, goes_more, written_more, readable_still}
+use Rattle.thin.proofs.Front.{so_far, row_read, row_used, stays_more, goes_more, written_more, readable_still}
 use Rattle.thin.proofs.gather_kept.Goals as goal
 use Rattle.thin.proofs.gather_kept.Goals.{then-keeps, else-keeps}
-
-pub loop-i-init : goal.loop-i-init
-loop-i-init g c =
-    let t : Tables = tables c.args.store.now in
-    let run : Run = c.args.run in
-    let none = sym (none_so_far (g.K.Keeps.test c.args.keep.now) t run c.requires.fits) in
-    record {
-      writes = ap (hold_numbers t t.counts) (paste-zero t.numbers run.first []) ∙ ap (rewritten t run.first) none;
-      end = (let e : run.first ≡ run.first + 0 = omega arith in e) ∙ ap (λ (l : List ℕ). run.first + length l) none;
-      behind = omega arith;
-      held = search rules;
-    }
 
 pub keeps-requires : goal.keeps-requires
 keeps-requires g c =
@@ -80,14 +68,3 @@ loop-i-preserved g c =
             held = subst (λ s. Held s c.args.store.now) (sym w.store-is) before.held;
           }
     ]
-
-pub returns : goal.returns
-returns g c =
-    let t : Tables = tables c.args.store.now in
-    let run : Run = c.args.run in
-    let all = all_so_far (g.K.Keeps.test c.args.keep.now) t run c.requires.fits c.loop-i.i (omega arith) in
-    record {
-      count = (let e : c.loop-i.end - run.first ≡ length (so_far (g.K.Keeps.test c.args.keep.now) t run c.loop-i.i) = omega (arith, c.loop-i.invariant.end) in e) ∙ ap length all;
-      writes = c.loop-i.invariant.writes ∙ ap (rewritten t run.first) all;
-      held = c.loop-i.invariant.held;
-    }

@@ -6,11 +6,21 @@ use Rattle.hir.specs.Used.{in_run}
 use Rattle.hir.specs.Tables.{Tables, tables, over_block}
 use Rattle.hir.specs.View.{null_block}
 use Rattle.hir.specs.Lists.{block_number, block_of, listing_run, with_thinned_list}
-use Rattle.hir.proofs.Listed.{block_fits_at}
+use Rattle.hir.proofs.Listed.{block_used, block_fits_at}
 use Rattle.hir.proofs.Seen.{readable, legible, list_listed}
 use Rattle.thin.specs.Kept.{kept_of, rewritten}
 use Rattle.thin.proofs.Thinned.{list_whole}
 use Rattle.thin.proofs.write_thinned.Goals as goal
+
+pub overflow_add-at : goal.overflow_add-at
+overflow_add-at g c =
+    let u = block_used (tables c.args.store.now) c.requires.well c.args.function.0 c.args.k c.requires.has in
+    omega (arith, u, c.requires.well.counted.blocks.in_limit)
+
+pub bounds-store-at : goal.bounds-store-at
+bounds-store-at g c =
+    let u = block_used (tables c.args.store.now) c.requires.well c.args.function.0 c.args.k c.requires.has in
+    omega (arith, u, c.requires.well.counted.blocks.in_table)
 
 pub gather_kept-count-requires : goal.gather_kept-count-requires
 gather_kept-count-requires g c =
@@ -24,6 +34,11 @@ gather_kept-count-requires g c =
       listed = subst (AllByRecursion (λ n. n < t.counts.instructions)) (list_whole (g.K.Keeps.test c.args.keep.now) t w c.args.function.0 c.args.k c.requires.has) (list_listed t (legible t w) c.args.function.0 c.requires.has.function c.args.k c.requires.has.block);
       ready = c.requires.ready;
     }
+
+pub bounds-store-at-2 : goal.bounds-store-at-2
+bounds-store-at-2 g c =
+    let u = block_used (tables c.args.store.now) c.requires.well c.args.function.0 c.args.k c.requires.has in
+    omega (arith, u, c.requires.well.counted.blocks.in_table, c.gather_kept-count.ensures.held.blocks_length)
 
 pub returns : goal.returns
 returns g c =

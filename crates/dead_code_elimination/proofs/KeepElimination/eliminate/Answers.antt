@@ -5,11 +5,8 @@ use Rattle.hir.proofs.Frames.{kept_same}
 use Rattle.dead_code_elimination.proofs.Same.{eliminated_keep, only_same, held_same}
 use Rattle.dead_code_elimination.proofs.KeepElimination.eliminate.Goals as goal
 
-pub returns : goal.returns
-returns c =
+pub returns-clause-does : goal.returns-clause-does
+returns-clause-does c =
     let s = c.args._store.now in
     let f = c.args._function.0 in
-    record {
-      does = record { seen = sym (eliminated_keep (view (tables s)) f); kept = kept_same (tables s); only = only_same (tables s) f; held = held_same s };
-      clear = c.requires.zero;
-    }
+    record { seen = sym (eliminated_keep (view (tables s)) f); kept = kept_same (tables s); only = only_same (tables s) f; held = held_same s }

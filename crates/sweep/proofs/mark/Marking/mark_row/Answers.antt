@@ -1,7 +1,7 @@
-use Rattle.std.proofs.Common.{sym, ap, refl, ◌∙◌, arith}
+use Rattle.std.proofs.Common.{sym, ap, refl, ◌∙◌}
 use Rattle.hir.specs.Tables.{tables}
 use Rattle.sweep.specs.Marks.{with_marks}
-use Rattle.sweep.proofs.Reading.{passed_kept, passed_not, reads_are}
+use Rattle.sweep.proofs.Reading.{passed_kept, reads_are}
 use Rattle.sweep.proofs.Steps.{joined}
 use Rattle.sweep.proofs.mark.Marking.mark_row.Goals as goal
 

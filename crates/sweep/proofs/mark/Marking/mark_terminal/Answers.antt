@@ -1,5 +1,5 @@
 use Rattle.std.proofs.Common.{ℕ, List, get_or, take, sym, ap, ◌∙◌}
-use Rattle.std.proofs.lemmas.List.{take_more, take_all}
+use Rattle.std.proofs.lemmas.List.{take_more}
 use Rattle.hir.specs.declared.rows.Place.{Place}
 use Rattle.hir.specs.View.{null_place}
 use Rattle.sweep.specs.Marks.{ids, with_mark, with_marks}
