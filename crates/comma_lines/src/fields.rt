@@ -89,7 +89,7 @@ impl<'t, 'l> Fields<'t, 'l> {
         Ok(Some(Name { start, len }))
     }
 
-    // 0 and no name, or 1 for Named or 2 for Promoted and the name.
+    // 0 and no name, or 1 for Named or 2 for Promoted and the name. The numbers are the form's own: no table keeps them.
     fn identifier_name(&mut self) -> Result<Option<IdentifierName>, ReadError> {
         let kind = self.between("the kind of the identifier's name", 0, 2)?;
         let field = "the identifier's name";
@@ -181,9 +181,9 @@ impl<'t, 'l> Fields<'t, 'l> {
 
     // Every field of the line has been read.
     pub fn end(&mut self) -> Result<(), Fault> {
-        match self.parts.next() {
-            Some(_) => Err(self.fault(Wrong::Extra)),
-            None => Ok(()),
-        }
+        let None = self.parts.next() else {
+            return Err(self.fault(Wrong::Extra));
+        };
+        Ok(())
     }
 }

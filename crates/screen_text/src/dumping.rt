@@ -78,6 +78,7 @@ impl Printer<'_> {
         Ok(())
     }
 
+    // The numbers for the sort of its name are those of a comma line.
     fn dump_identifier(&mut self, number: u32) -> Result<(), PrintError> {
         let identifier = self.identifier(IdentifierId(number))?;
         let kind = match identifier.name {

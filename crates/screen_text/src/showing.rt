@@ -12,6 +12,9 @@ const OBJECT_PATTERN: u64 = 8;
 // The detail of a LoadGlobal of the same module.
 const MODULE_LOCAL: u64 = 4;
 
+// The detail of an element that has a list of children, even where that is empty.
+const HAS_CHILDREN: u64 = 1;
+
 // The store as a compiler engineer reads it: a head line for each function, its blocks, their rows and terminals.
 pub fn show(heap: Global, store: &Store<'_>) -> Result<Vec<u8>, PrintError> {
     let mut printer = Printer::new(heap, store);
@@ -146,8 +149,7 @@ impl Printer<'_> {
         Ok(())
     }
 
-    // An element: its tag, attributes and spreads in angle brackets, and then its children. Detail 1 says that it has a
-    // list of these, even where that is empty.
+    // An element: its tag, attributes and spreads in angle brackets, and then its children.
     fn show_element(&mut self, row: &Instruction) -> Result<(), PrintError> {
         let places = self.places(row.places)?;
         write!(self.out, " <")?;
@@ -160,7 +162,7 @@ impl Printer<'_> {
         })?;
         write!(self.out, ">")?;
         self.show_where(places, |place| place.has_role(Role::Child))?;
-        if row.detail == 1 && !places.iter().any(|place| place.has_role(Role::Child)) {
+        if row.detail == HAS_CHILDREN && !places.iter().any(|place| place.has_role(Role::Child)) {
             write!(self.out, " ()")?;
         }
         Ok(())

@@ -60,7 +60,7 @@ fn quote_of(words: &[String]) -> Result<Command, Failure>
 }
 
 // A number past 32 bits is past every limit too, so the largest one stands for it.
-fn number(what: &'static str, word: &String) -> Result<u32, Failure> {
-    let n: u64 = word.as_str().parse().map_err(|_| Failure::Number(what))?;
+fn number(what: &'static str, word: &str) -> Result<u32, Failure> {
+    let n: u64 = word.parse().map_err(|_| Failure::Number(what))?;
     Ok(u32::try_from(n).unwrap_or(u32::MAX))
 }
