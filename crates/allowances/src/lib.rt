@@ -32,7 +32,8 @@ pub struct Allowances {
 }
 
 impl Allowances {
-    // There are as many spare rows in each table.
+    // There are as many spare rows in each table. The form of a store is tried by the same rows with nothing more, before there is anything
+    // to allow, and each of the two has a deliberate edit of its own.
     pub fn fit(self, store: &Store<'_>) -> bool
         ensures { MatchBool result (HasRoom (tables store.now) self) (HasRoom (tables store.now) self → ⊥) }
     {

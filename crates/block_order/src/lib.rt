@@ -15,6 +15,7 @@ use reading::{RowList, StoredFunction};
 // The most elements of a block.
 const ELEMENTS_LIMIT: usize = 256;
 
+// Blocks by number: the clauses speak of the k-th block of a function.
 pub fn function_ordered(function: StoredFunction<'_, '_>) -> bool
     ensures { MatchBool result (FunctionOrdered (function_seen function.entry)) (FunctionOrdered (function_seen function.entry) → ⊥) }
 {

@@ -54,7 +54,7 @@ impl<'t, 'l> Fields<'t, 'l> {
         }
     }
 
-    // The number of a kind, from that of the first to that of the last.
+    // The number of a kind, from that of the first to that of the last: a message names the range.
     fn kind(&mut self, field: &'static str, first: u8, last: u8) -> Result<u8, Fault>
         ensures { IfOk result (λ n. (first ≤ n) × (n ≤ last)) }
     {

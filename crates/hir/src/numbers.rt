@@ -8,7 +8,8 @@ ghost use Rattle.kinds.specs.Values.{number_of_value_kind};
 use super::rows::{HirFunction, Instruction, Place};
 use kinds::{FunctionType, Role, ValueKind};
 
-// Does a row of this kind act, so that it must stay even if nothing reads what it writes?
+// Does a row of this kind act, so that it must stay even if nothing reads what it writes? One match over ranges of numbers, by a rule of the
+// project.
 pub fn is_acting(kind: u8) -> bool
     ensures { result ≡ acts kind }
 {

@@ -3,7 +3,7 @@
 ghost use Rattle.std.specs.Prelude.{◌≡◌};
 ghost use Rattle.hir.specs.Given.{given_name};
 
-// A name is a stretch of the text table.
+// A name is a stretch of the text table, and no `String`: the pass has no heap.
 #[derive(Clone, Copy)]
 pub struct Name {
     pub start: u32,
@@ -119,7 +119,7 @@ pub struct Counts {
     pub tag_mark: u32,
 }
 
-// The host's seven tables, lent for a call. Rows from a used count on are spare.
+// The host's seven tables, lent for a call. Rows from a used count on are spare. Slices and counts, and no `Vec`: the memory is the host's.
 #[derive(Drop)]
 pub struct Store<'a> {
     pub counts: Counts,

@@ -13,7 +13,8 @@ use kinds::ValueKind;
 use reading::{RowList, StoredFunction};
 
 // Goes through a function and the functions that its listed FunctionExpression rows name, each block from its last row to its first, and
-// marks each. False if one is marked already, is appended or lies too deep. Loops and no chains, since the marks change on the way.
+// marks each. False if one is marked already, is appended or lies too deep. Loops and no chains, since the marks change on
+// the way; marks are bytes, since a caller lends them. Blocks are gone through by number, as the clauses speak of them.
 #[cycle(walk)]
 pub fn walk(function: StoredFunction<'_, '_>, depth: u32, reached: &mut [u8]) -> bool
     requires marks { function.store.now.counts.functions ≤ length reached.old }

@@ -15,6 +15,7 @@ use kinds::{Role, ValueKind};
 use names::is_key;
 use reading::{RowList, StoredFunction};
 
+// Blocks by number: the clauses speak of the k-th block of a function.
 pub fn function_keyless(function: StoredFunction<'_, '_>) -> bool
     ensures { MatchBool result (FunctionKeyless (view (tables function.entry.store.now)) (function_seen function.entry)) (FunctionKeyless (view (tables function.entry.store.now)) (function_seen function.entry) → ⊥) }
 {

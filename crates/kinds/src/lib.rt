@@ -20,6 +20,7 @@ pub use values::ValueKind;
 #[derive(Clone, Copy, PartialEq, Eq, Debug)]
 pub struct UnknownNumber(pub u8);
 
+// By hand, so that a clause can say what it prints.
 impl fmt::Display for UnknownNumber {
     ghost output = { λ e. Some (codes "no kind has the number " ++ decimal e.0) };
 

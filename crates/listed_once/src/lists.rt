@@ -8,7 +8,7 @@ ghost use Rattle.listed_once.specs.Marking.{NoMarks};
 
 use hir::{BasicBlock, Run};
 
-// No two positions list one row.
+// No two positions list one row. Loops, since the marks change on the way.
 pub fn rows_once(blocks: &[BasicBlock], numbers: &[u32], marks: &mut [u8]) -> bool
     requires fit { ListsFit blocks.now numbers.now }
     requires below { ListedBelow blocks.now numbers.now (length marks.old) }

@@ -1,13 +1,13 @@
 -- What gathered props, bound props and the rows of a call show.
-use Rattle.std.specs.Prelude.{Bool, true, false, List, [], ◌∷◌, map, Some, None, Option}
+use Rattle.std.specs.Prelude.{Bool, true, false, List, [], ◌∷◌, map, None, Option}
 use Rattle.rules.specs.Views.{Bytes}
 use Rattle.rules.specs.Props as rules
 use Rattle.rules.specs.Emit as emits
 use Rattle.ordered_table.specs.declared.Entry.{Entry}
 use Rattle.hir.specs.declared.rows.Counts.{Counts}
 use Rattle.hir.specs.declared.rows.IdentifierId.{IdentifierId}
-use Rattle.hir.specs.View.{Rows, spelt, place_view, instructions_at}
-use Rattle.hir.specs.WellFormed.{NameFits, PlaceFits}
+use Rattle.hir.specs.View.{Rows, spelt, spelt_if, place_view, instructions_at}
+use Rattle.hir.specs.WellFormed.{NameFits, NameIfFits, PlaceFits}
 use Rattle.outlined_props.specs.declared.Origin.{Origin}
 use Rattle.outlined_props.specs.declared.Origin.TheVariants.{Attribute, Child}
 use Rattle.outlined_props.specs.declared.OutlinedJsxAttribute.{OutlinedJsxAttribute}
@@ -20,7 +20,7 @@ is_child Child = true
 
 -- only an attribute has an original name
 abbrev pub original_name : Bytes → Origin → Option Bytes
-original_name text (Attribute n) = Some (spelt text n)
+original_name text (Attribute n) = spelt_if text n
 original_name text Child = None
 
 -- a prop, its names spelt out
@@ -31,7 +31,7 @@ abbrev pub entries_view : Bytes → List OutlinedJsxAttribute → List rules.Out
 entries_view text es = map (entry_view text) es
 
 abbrev pub OriginFits : Counts → Origin → Type 0
-OriginFits c (Attribute n) = NameFits c n
+OriginFits c (Attribute n) = NameIfFits c n
 OriginFits c Child = Unit {0}
 
 -- its names lie within the used text, and its identifier is used

@@ -4,10 +4,10 @@
 
 use hir::{IdentifierId, InstructionId, Name, Place};
 
-// Where a prop comes from: an attribute of a member, by the name that it has there, or a child that is no member.
+// Where a prop comes from: an attribute of a member, by the name that it has there if it has one, or a child that is no member.
 #[derive(Clone, Copy)]
 pub enum Origin {
-    Attribute(Name),
+    Attribute(Option<Name>),
     Child,
 }
 

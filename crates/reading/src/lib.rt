@@ -4,15 +4,25 @@
 ghost use Rattle.std.specs.Prelude.{◌≡◌, ◌<◌, map};
 ghost use Rattle.std.specs.List.{AllByRecursion};
 ghost use Rattle.hir.specs.Tables.{tables};
-ghost use Rattle.hir.specs.View.{instruction_at, place_view, rows, view};
-ghost use Rattle.hir.specs.WellFormed.{PlaceFits, Readable};
+ghost use Rattle.hir.specs.View.{instruction_at, instruction_view, place_view, rows, view};
+ghost use Rattle.hir.specs.WellFormed.{InstructionFits, PlaceFits, Readable};
 
 mod stored;
 
-use hir::{InstructionId, Place, Store};
+use hir::{Instruction, InstructionId, Place, Store};
 pub use stored::{RowList, StoredFunction};
 
-// The places of a row.
+// A row, of a store of which no more is known than that rows and places can be read.
+pub fn stored_row(store: &Store<'_>, id: InstructionId) -> Instruction
+    requires readable { Readable (tables store.now) }
+    requires used { id.0 < store.now.counts.instructions }
+    ensures seen { instruction_at (rows (tables store.now)) id.0 ≡ instruction_view (rows (tables store.now)) result }
+    ensures fits { InstructionFits store.now.counts result }
+{
+    store.instructions[id.0 as usize]
+}
+
+// Its places.
 pub fn row_places<'b>(store: &'b Store<'_>, id: InstructionId) -> &'b [Place]
     requires readable { Readable (tables store.now) }
     requires used { id.0 < store.now.counts.instructions }

@@ -6,7 +6,7 @@ ghost use Rattle.hir.specs.Tables.{tables};
 ghost use Rattle.hir.specs.Legible.{Legible};
 ghost use Rattle.hir.proofs.Props.{Legible-prop};
 
-use super::row_places;
+use super::{row_places, stored_row};
 use hir::{FunctionId, HirFunction, Instruction, InstructionId, Place, Store};
 
 #[derive(Clone, Copy)]
@@ -29,6 +29,8 @@ impl<'s, 'a> StoredFunction<'s, 'a> {
     ghost use Rattle.std.specs.Prelude.{◌≡◌, length};
     ghost use Rattle.rules.specs.Views.{block_rows};
     ghost use Rattle.hir.specs.Tables.{tables};
+    ghost use Rattle.hir.specs.Lists.{block_of};
+    ghost use Rattle.hir.specs.Used.{in_run};
     ghost use Rattle.hir.specs.View.{function_view, rows};
     ghost use Rattle.reading.specs.Stored.{function_seen, rows_in};
 
@@ -44,6 +46,7 @@ impl<'s, 'a> StoredFunction<'s, 'a> {
     pub fn list(&self, k: u32) -> RowList<'s, 'a>
         requires { k < length (function_seen self.now).blocks }
         ensures store { result.store ≡ self.now.store }
+        ensures numbers { result.numbers.now ≡ in_run (rows (tables self.now.store.now)).numbers (block_of (tables self.now.store.now) self.now.id.0 k).instructions }
         ensures seen { rows_in result ≡ block_rows (function_seen self.now).blocks k }
     {
         let store = self.store;
@@ -70,7 +73,7 @@ impl<'s, 'a> RowList<'s, 'a> {
         ensures seen { instruction_at (rows (tables self.now.store.now)) number ≡ instruction_view (rows (tables self.now.store.now)) result }
         ensures fits { InstructionFits self.now.store.now.counts result }
     {
-        self.store.instructions[number as usize]
+        stored_row(self.store, InstructionId(number))
     }
 
     // The places of that row.

@@ -5,7 +5,8 @@ use std::alloc::Global;
 use std::io::Write;
 
 // The canonical dump: every function with its blocks and their rows, then every identifier. It shows nothing of
-// which spare row took what, so that two passes over one screen can be compared byte by byte.
+// which spare row took what, so that two passes over one screen can be compared byte by byte. Functions and identifiers are shown with their
+// numbers.
 pub fn dump(heap: Global, store: &Store<'_>) -> Result<Vec<u8>, PrintError> {
     let mut printer = Printer::new(heap, store);
     for number in 0..store.counts.functions {

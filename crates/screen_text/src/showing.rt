@@ -2,12 +2,12 @@ use super::named::Named;
 use super::print_error::PrintError;
 use super::printer::Printer;
 use hir::{BasicBlock, IdentifierId, Instruction, Place, Run, Store};
-use kinds::{BlockKind, FunctionType, InstructionKind, ReturnVariant, Role, Terminal, ValueKind};
+use kinds::{
+    BlockKind, FunctionType, InstructionKind, OBJECT_PATTERN, ReturnVariant, Role, Terminal,
+    ValueKind,
+};
 use std::alloc::Global;
 use std::io::Write;
-
-// A Destructure's detail is the number of an `InstructionKind`, and this much more for an object pattern.
-const OBJECT_PATTERN: u64 = 8;
 
 // The detail of a LoadGlobal of the same module.
 const MODULE_LOCAL: u64 = 4;
@@ -15,7 +15,7 @@ const MODULE_LOCAL: u64 = 4;
 // The detail of an element that has a list of children, even where that is empty.
 const HAS_CHILDREN: u64 = 1;
 
-// The store as a compiler engineer reads it: a head line for each function, its blocks, their rows and terminals.
+// The store as a compiler engineer reads it: a head line for each function with its number, its blocks, their rows and terminals.
 pub fn show(heap: Global, store: &Store<'_>) -> Result<Vec<u8>, PrintError> {
     let mut printer = Printer::new(heap, store);
     for number in 0..store.counts.functions {

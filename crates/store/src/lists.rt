@@ -9,6 +9,7 @@ ghost use Rattle.hir.specs.Frame.{Becomes};
 use super::append::write_numbers;
 use hir::{BasicBlock, BlockId, FormedStore, FunctionId, Store};
 
+// As the appends of other tables, it differs in what it names.
 fn write_block(store: &mut Store<'_>, block: BasicBlock, list: &[u32]) -> BlockId
     requires numbers { Room store.old.counts.numbers (length list.now) (length store.old.numbers.now) numbers_limit }
     requires blocks { Room store.old.counts.blocks 1 (length store.old.blocks.now) blocks_limit }

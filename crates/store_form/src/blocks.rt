@@ -61,6 +61,7 @@ fn run_fits(run: Run, used: u32) -> bool
     run.first as u64 + run.count as u64 <= used as u64
 }
 
+// By the role's number: with `has_role` the chain's proof did not close.
 fn roles_are(places: &[Place], role: u8) -> bool
     ensures { MatchBool result (AllByRecursion (λ (p : Place). p.role ≡ role) places.now) (AllByRecursion (λ (p : Place). p.role ≡ role) places.now → ⊥) }
 {

@@ -78,7 +78,8 @@ fn tag_given(name: Option<Name>, places: &[Place]) -> bool
             .is_some_and(|place| place.has_role(Role::Tag))
 }
 
-// A tag only at the start, then attributes and spreads, then children, and these only with a child list.
+// A tag only at the start, then attributes and spreads, then children, and these only with a child list. By the numbers of roles, of which
+// the one before may be none; a detail is a number of the host's, here of a child list or none.
 fn may_follow(before: Option<u8>, role: u8, detail: u64) -> bool
     ensures { MatchBool result (MayFollow before role detail) (MayFollow before role detail → ⊥) }
 {

@@ -20,7 +20,7 @@ struct Marking<'s, 'a, 'm> {
     ghost terminals: { TerminalsFit (tables function.store.now) } by { Prim.hlevel props },
 }
 
-// What marks answers how many identifiers it has newly marked.
+// What marks answers how many identifiers it has newly marked. Blocks are gone through by number: the clauses speak of the k-th.
 impl<'s> Marking<'s, '_, '_> {
     ghost use Rattle.std.specs.Prelude.{◌<◌};
     ghost use Rattle.std.specs.List.{AllByRecursion};

@@ -18,3 +18,9 @@ returns-clause-seen c =
     let t : Tables = tables s.store.now in
     let inside = subst (λ n. c.args.k < n) (blocks_counted t s.legible s.id.0 s.used) c.requires in
     ap (instructions_at (rows t)) (list_read t s.legible s.id.0 s.used c.args.k inside) ∙ sym (list_seen t s.legible s.id.0 s.used c.args.k inside)
+
+pub returns-clause-numbers : goal.returns-clause-numbers
+returns-clause-numbers c =
+    let s = c.args.self.now in
+    let t : Tables = tables s.store.now in
+    list_read t s.legible s.id.0 s.used c.args.k (subst (λ n. c.args.k < n) (blocks_counted t s.legible s.id.0 s.used) c.requires)
