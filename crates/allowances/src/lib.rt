@@ -15,7 +15,8 @@ ghost use Rattle.allowances.specs.Tallies.{walks_counts};
 
 use hir::{LIMITS, Place, Store};
 use kinds::{FunctionType, Role, ValueKind};
-use laws::allowances::{Tally, listed_of, pairs_of};
+pub use laws::allowances::Tally;
+use laws::allowances::pairs_of;
 use reading::{RowList, StoredFunction};
 use store_form::has_room;
 
@@ -71,25 +72,33 @@ impl Allowances {
     }
 }
 
-// In 64 bits, if it fits them.
-fn in_64_bits(allowance: u128) -> Option<u64>
-    ensures { MatchOption result (2 ^ 64 ≤ allowance) (λ n. n ≡ allowance) }
-{
-    u64::try_from(allowance).ok()
-}
-
-// What a tally allows of each table. None only where an allowance passes 64 bits.
+// What a tally allows of each table, summed in 64 bits. None only where an allowance passes them.
 pub fn allowances_of(tally: Tally) -> Option<Allowances>
     ensures { MatchOption result (Allowable (counts_of tally) → ⊥) (λ a. Allowed (counts_of tally) a) }
 {
+    let entries = tally.attributes.checked_add(tally.children)?;
     Some(Allowances {
-        identifiers: in_64_bits(tally.identifiers_allowance())?,
-        instructions: in_64_bits(tally.instructions_allowance())?,
-        numbers: in_64_bits(tally.numbers_allowance())?,
-        places: in_64_bits(tally.places_allowance())?,
+        identifiers: entries.checked_add(tally.pairs.checked_mul(4)?)?,
+        instructions: tally
+            .pairs
+            .checked_mul(3)?
+            .checked_add(tally.elements.checked_mul(2)?)?,
+        numbers: tally
+            .pairs
+            .checked_add(tally.elements.checked_mul(2)?)?
+            .checked_add(tally.listed)?,
+        places: tally
+            .pairs
+            .checked_mul(4)?
+            .checked_add(tally.elements)?
+            .checked_add(entries.checked_mul(3)?)?,
         blocks: tally.pairs,
         functions: tally.pairs,
-        text: in_64_bits(tally.text_allowance())?,
+        text: tally
+            .letters
+            .checked_add(tally.attributes.checked_mul(10)?)?
+            .checked_add(tally.children.checked_mul(23)?)?
+            .checked_add(tally.pairs.checked_mul(39)?)?,
     })
 }
 
@@ -164,9 +173,15 @@ fn block_tally(list: RowList<'_, '_>) -> Option<Tally>
 fn halved(elements: u64, rows: u64) -> Option<Tally>
     ensures { Tallied result (halved elements rows) }
 {
+    let pairs = pairs_of(elements);
+    let listed = if elements < 2 {
+        0
+    } else {
+        rows.checked_add(pairs)?
+    };
     Some(Tally {
-        pairs: pairs_of(elements),
-        listed: in_64_bits(listed_of(elements, rows))?,
+        pairs,
+        listed,
         ..Tally::default()
     })
 }

@@ -23,7 +23,7 @@ pub enum Wrong {
     #[error("{0} is given, but its kind is 0")]
     NameUnexpected(&'static str),
     #[error("the names are too long together")]
-    TooMuchText,
+    TooMuchText(&'static str),
 }
 
 // The first thing wrong with a text, and on which line.

@@ -47,10 +47,13 @@ impl<'t, 'l> Fields<'t, 'l> {
         ensures { IfOk result (λ n. (min ≤ n) × (n ≤ max)) }
     {
         let part = self.take(field)?;
-        let spelt = !part.starts_with('+') && (part.len() <= 1 || !part.starts_with('0'));
+        let wrong = self.fault(Wrong::Number { field, min, max });
+        if part.starts_with('+') || (part.len() > 1 && part.starts_with('0')) {
+            return Err(wrong);
+        }
         match part.parse::<u64>() {
-            Ok(n) if spelt && min <= n && n <= max => Ok(n),
-            _ => Err(self.fault(Wrong::Number { field, min, max })),
+            Ok(n) if min <= n && n <= max => Ok(n),
+            _ => Err(wrong),
         }
     }
 
@@ -83,7 +86,7 @@ impl<'t, 'l> Fields<'t, 'l> {
         }
         let (Ok(start), Ok(len)) = (u32::try_from(self.text.len()), u32::try_from(part.len()))
         else {
-            return Err(self.fault(Wrong::TooMuchText).into());
+            return Err(self.fault(Wrong::TooMuchText(field)).into());
         };
         self.text.extend_from_slice(part.as_bytes())?;
         Ok(Some(Name { start, len }))

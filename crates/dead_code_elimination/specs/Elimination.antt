@@ -7,6 +7,7 @@ use Rattle.hir.specs.declared.rows.Run.{Run}
 use Rattle.hir.specs.declared.rows.Store.{Store}
 use Rattle.hir.specs.Tables.{Tables, tables, Held}
 use Rattle.hir.specs.View.{null_block, null_function, view}
+use Rattle.hir.specs.WellFormed.{WellFormed}
 use Rattle.hir.specs.Lists.{block_of}
 use Rattle.hir.specs.Frame.{Kept, without_list}
 
@@ -43,10 +44,11 @@ pub record OnlyLists (t u : Tables) (f : ℕ) : Type 0 where
   pub blocks : (n : ℕ) → without_list (slice_index_or u.blocks n null_block) ≡ without_list (slice_index_or t.blocks n null_block)
   pub other_blocks : (n : ℕ) → Outside (get_or t.functions f null_function).blocks n → slice_index_or u.blocks n null_block ≡ slice_index_or t.blocks n null_block
 
--- What an elimination does to function f: the store then says what the meaning says, nothing but lists has changed, and the same slices are
--- lent.
+-- What an elimination does to function f: the store then says what the meaning says, is well formed again, nothing but lists has changed,
+-- and the same slices are lent.
 pub record Eliminates (m : Meaning) (before after : Store) (f : ℕ) : Type 0 where
   pub seen : view (tables after) ≡ eliminated m (view (tables before)) f
+  pub well : WellFormed (tables after)
   pub kept : Kept (tables before) (tables after)
   pub only : OnlyLists (tables before) (tables after) f
   pub held : Held after before

@@ -7,7 +7,7 @@ ghost use Rattle.rules.specs.Views.{with_list};
 ghost use Rattle.rules.specs.Eliminations.{Meaning, Lawful, eliminated, keep};
 ghost use Rattle.hir.specs.Tables.{tables, Held};
 ghost use Rattle.hir.specs.View.{instructions_at, rows, view};
-ghost use Rattle.hir.specs.WellFormed.{numbers_limit, Room};
+ghost use Rattle.hir.specs.WellFormed.{numbers_limit, Room, WellFormed};
 ghost use Rattle.hir.specs.Lists.{block_number, HasBlock, ListFits, UnlistedBut};
 ghost use Rattle.hir.specs.Frame.{Kept};
 ghost use Rattle.dead_code_elimination.specs.Elimination.{Eliminates, Ready, Zero};
@@ -39,7 +39,10 @@ impl Elimination for Keep {
 
     ghost lawful = { keep_lawful };
 
-    fn eliminate(&self, _store: &mut FormedStore<'_>, _function: FunctionId, _marks: &mut [u8]) {}
+    // Looked into, so that it is known to be well formed.
+    fn eliminate(&self, store: &mut FormedStore<'_>, _function: FunctionId, _marks: &mut [u8]) {
+        let _ = &store.lent;
+    }
 }
 
 // The k-th block of a function is given a new list; then what this leaves unread may go.
@@ -57,6 +60,7 @@ pub fn rewrite_block<E: Elimination>(
     requires fits { ListFits (tables store.old) list.now }
     requires unlisted { UnlistedBut (tables store.old) (block_number (tables store.old) function.0 k) list.now }
     ensures seen { view (tables store.new) ≡ eliminated E.Elimination.meaning (with_list (view (tables store.old)) function.0 k (instructions_at (rows (tables store.old)) list.now)) function.0 }
+    ensures well { WellFormed (tables store.new) }
     ensures kept { Kept (tables store.old) (tables store.new) }
     ensures held { Held store.new store.old }
     ensures clear { Zero marks.new }

@@ -106,7 +106,7 @@ pub struct HirFunction {
 }
 
 // How many rows of each table are used, how many tags were taken, and the number of the latest.
-#[derive(Clone, Copy)]
+#[derive(Clone, Copy, Default)]
 pub struct Counts {
     pub text: u32,
     pub identifiers: u32,
@@ -120,7 +120,7 @@ pub struct Counts {
 }
 
 // The host's seven tables, lent for a call. Rows from a used count on are spare. Slices and counts, and no `Vec`: the memory is the host's.
-#[derive(Drop)]
+#[derive(Default, Drop)]
 pub struct Store<'a> {
     pub counts: Counts,
     pub text: &'a mut [u8],

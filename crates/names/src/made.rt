@@ -3,7 +3,7 @@ ghost use Rattle.rules.specs.Names.{numeral, temporary};
 ghost use Rattle.rules.specs.Props.{promote as promote_rule};
 ghost use Rattle.hir.specs.Tables.{tables, Held};
 ghost use Rattle.hir.specs.View.{null_identifier, spelt, view};
-ghost use Rattle.hir.specs.WellFormed.{NameFits};
+ghost use Rattle.hir.specs.WellFormed.{NameFits, WellFormed};
 ghost use Rattle.hir.specs.Frame.{Becomes};
 ghost use Rattle.names.specs.Made.{next_name, with_promoted, with_spare_text, Appended, TextRoom};
 
@@ -44,6 +44,7 @@ pub fn spell_renamed(store: &mut FormedStore<'_>, base: Name, number: u32) -> Na
     ensures at { result ≡ next_name (tables store.old) (spelt (view (tables store.old)).text base ++ numeral number) }
     ensures writes { tables store.new ≡ with_spare_text (tables store.old) (spelt (view (tables store.old)).text base ++ numeral number) }
     ensures seen { view (tables store.new) ≡ view (tables store.old) }
+    ensures well { WellFormed (tables store.new) }
     ensures held { Held store.new store.old }
 {
     let lent = &mut store.lent;

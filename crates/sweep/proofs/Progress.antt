@@ -161,4 +161,4 @@ module _ (t : Tables) (w : WellFormed t) (f : ℕ) (used : f < t.counts.function
 
 pub all_done : (before after : Store) (w : WellFormed (tables before)) (f : ℕ) (used : f < (tables before).counts.functions) (marks : List ℕ) (wide : (tables before).counts.identifiers ≤ length marks)
     → Progress (tables before) marks f (get_or (tables before).functions f null_function).blocks.count (tables after) → Held after before → Eliminates (by_marks marks) before after f
-all_done before after w f used marks wide g held = record { seen = all_seen (tables before) w f used marks wide (tables after) g; kept = g.kept; only = g.only; held = held }
+all_done before after w f used marks wide g held = record { seen = all_seen (tables before) w f used marks wide (tables after) g; well = g.well; kept = g.kept; only = g.only; held = held }

@@ -3,7 +3,7 @@ ghost use Rattle.rules.specs.Names.{borne, known, names_of};
 ghost use Rattle.hir.specs.Tables.{tables};
 ghost use Rattle.hir.specs.View.{bears_name, identifier_view, instruction_view, rows, view};
 
-use hir::{FormedStore, Identifier, Instruction, Store};
+use hir::{Identifier, Instruction, Store};
 use kinds::ValueKind;
 use names::name_bytes;
 use ordered_table::same_bytes;
@@ -21,26 +21,28 @@ fn row_bears(store: &Store<'_>, row: Instruction, name: &[u8]) -> bool
         && matches!(row.name, Some(own) if same_bytes(name, name_bytes(store, own)))
 }
 
-fn some_identifier_bears(store: &FormedStore<'_>, name: &[u8]) -> bool
+fn some_identifier_bears(store: &Store<'_>, name: &[u8]) -> bool
     ensures { result ≡ borne name.now (names_of (view (tables store.now)).identifiers) }
 {
-    let lent = &store.lent;
-    lent.identifiers[..lent.counts.identifiers as usize]
+    store
+        .identifiers
         .iter()
-        .any(|identifier| identifier_bears(lent, *identifier, name))
+        .take(store.counts.identifiers as usize)
+        .any(|identifier| identifier_bears(store, *identifier, name))
 }
 
-fn some_row_bears(store: &FormedStore<'_>, name: &[u8]) -> bool
+fn some_row_bears(store: &Store<'_>, name: &[u8]) -> bool
     ensures { result ≡ (view (tables store.now)).bears name.now }
 {
-    let lent = &store.lent;
-    lent.instructions[..lent.counts.instructions as usize]
+    store
+        .instructions
         .iter()
-        .any(|row| row_bears(lent, *row, name))
+        .take(store.counts.instructions as usize)
+        .any(|row| row_bears(store, *row, name))
 }
 
 // Does an identifier, or a used row that loads or stores a global, bear the name?
-pub fn is_known(store: &FormedStore<'_>, name: &[u8]) -> bool
+pub fn is_known(store: &Store<'_>, name: &[u8]) -> bool
     ensures { result ≡ known (view (tables store.now)) name.now }
 {
     some_identifier_bears(store, name) || some_row_bears(store, name)

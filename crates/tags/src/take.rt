@@ -32,7 +32,7 @@ fn spell_tag(number: u32) -> ArrayString<LONGEST>
 fn tag_known(store: &FormedStore<'_>, number: u32) -> bool
     ensures { result ≡ known (view (tables store.now)) (tag_name number) }
 {
-    is_known(store, spell_tag(number).as_str().as_bytes())
+    is_known(&store.lent, spell_tag(number).as_str().as_bytes())
 }
 
 // The number of the next tag: the first above the mark whose tag is free.

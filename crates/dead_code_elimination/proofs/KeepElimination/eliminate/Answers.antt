@@ -7,6 +7,6 @@ use Rattle.dead_code_elimination.proofs.KeepElimination.eliminate.Goals as goal
 
 pub returns-clause-does : goal.returns-clause-does
 returns-clause-does c =
-    let s = c.args._store.now in
+    let s = c.args.store.now in
     let f = c.args._function.0 in
-    record { seen = sym (eliminated_keep (view (tables s)) f); kept = kept_same (tables s); only = only_same (tables s) f; held = held_same s }
+    record { seen = sym (eliminated_keep (view (tables s)) f); well = rw (← c.store.view_is) c.store.invariant; kept = kept_same (tables s); only = only_same (tables s) f; held = held_same s }

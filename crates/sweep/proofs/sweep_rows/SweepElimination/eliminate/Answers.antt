@@ -9,6 +9,7 @@ returns-clause-does c =
     let e = c.thin_lists.ensures in
     record {
       seen = e.seen ∙ marks_sweep c.mark_needed.new.marks (view (tables c.args.store.now)) c.args.function.0 c.mark_needed.ensures;
+      well = e.well;
       kept = e.kept;
       only = e.only;
       held = e.held;
