@@ -43,6 +43,7 @@ fn row_keyless(list: RowList<'_, '_>, number: u32) -> bool
 }
 
 // Is the identifier named key?
+#[tactic(auto, using(crate::proofs::Spelt::name_seen))]
 fn named_key(list: RowList<'_, '_>, identifier: IdentifierId) -> bool
     requires { identifier.0 < list.store.now.counts.identifiers }
     ensures { result ≡ is_key (name_of (view (tables list.entry.store.now)) identifier.0) }
