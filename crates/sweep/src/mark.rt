@@ -106,6 +106,7 @@ impl<'s> Marking<'s, '_, '_> {
     }
 
     // The places of its k-th block's terminal.
+    #[tactic(auto, using(hir::proofs::Seen::blocks_counted, crate::proofs::Reading::terminal_in_table))]
     fn terminal_places(&self, k: u32) -> &'s [Place]
         requires { k < length (function_seen self.now.function).blocks }
         ensures seen { ids result.now ≡ identifiers_of (terminal_at (function_seen self.now.function).blocks k) }
